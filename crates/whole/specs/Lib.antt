@@ -1,0 +1,4 @@
+pub mod Rounding
+pub mod Order
+pub mod Euclid
+pub mod Laws
