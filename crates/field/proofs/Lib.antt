@@ -1,0 +1,5 @@
+pub mod Read
+pub mod Spelling
+pub mod Fields
+pub mod SignedFields
+pub mod Promise

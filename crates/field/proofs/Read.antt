@@ -1,0 +1,20 @@
+-- Laws of readings: what a chain of steps that ends well went through. Assumes nothing.
+use mathlib.Core.Path.{_≡_, refl}
+use mathlib.Core.Bool.{Bool, true, false}
+use Prim.Native.Nat.{ℕ}
+use native.Mathlib.Omega.{arith}
+use Rattle.field.specs.Read.{Read, Read.got, Read.refused, bind, pick}
+
+-- a refusal is no piece
+pub refused-got : {A B : Type 0} {n p c : ℕ} {x : A} → _≡_ {A = Read A} (refused n p) (got x c) → B
+refused-got e = let z : _≡_ {A = ℕ} 0 1 = cc in absurd (omega arith)
+
+-- a piece that follows another
+pub through : {A B : Type 0} (f : Read A) (go : A → ℕ → Read B) (y : B) (c : ℕ) → bind f go ≡ got y c → (x : A) × (d : ℕ) × (f ≡ got x d) × (go x d ≡ got y c)
+through (got x d) go y c h = (x, d, refl, h)
+through (refused n p) go y c h = refused-got h
+
+-- a test that was passed
+pub pick-left : {A : Type 0} (t : Bool) (x : Read A) (n p : ℕ) (y : A) (c : ℕ) → pick t x (refused n p) ≡ got y c → (t ≡ true) × (x ≡ got y c)
+pick-left true x n p y c h = (refl, h)
+pick-left false x n p y c h = refused-got h

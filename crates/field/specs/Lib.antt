@@ -1,0 +1,4 @@
+pub mod Read
+pub mod Spelling
+pub mod Field
+pub mod Promise

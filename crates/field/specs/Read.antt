@@ -1,0 +1,18 @@
+-- What reading answers: a piece with the place past it, or a refusal. The order of the checks is written in these words.
+use mathlib.Core.Bool.{Bool, true, false}
+use Prim.Native.Nat.{ℕ}
+
+-- what was read and the place past it; or a refusal's number and its place
+pub data Read (A : Type 0) : Type 0 where
+  got : A → ℕ → Read A
+  refused : ℕ → ℕ → Read A
+
+-- "the sheet is read left to right and the first fault is given": what follows goes on from the place past the piece
+abbrev pub bind : {A B : Type 0} → Read A → (A → ℕ → Read B) → Read B
+bind (got x place) next = next x place
+bind (refused number place) next = refused number place
+
+-- the first where the test holds, else the second
+abbrev pub pick : {A : Type 0} → Bool → A → A → A
+pick true x y = x
+pick false x y = y
