@@ -1,0 +1,17 @@
+pub mod Counts
+pub mod Streams
+pub mod Result
+pub mod Normal
+pub mod Declared
+pub mod On
+pub mod Not
+pub mod Some
+pub mod Offsets
+pub mod WordBits
+pub mod Word
+pub mod Taken
+pub mod Standings
+pub mod Makings
+pub mod Spans
+pub mod Held
+pub mod Theory

@@ -1,0 +1,8 @@
+pub mod Limits
+pub mod Stream
+pub mod Envelope
+pub mod Word
+pub mod Span
+pub mod Standing
+pub mod Made
+pub mod Theory

@@ -1,0 +1,57 @@
+-- What a node's rule makes of its parts: an envelope, or the reason why there is none, with document 01's number for it.
+use mathlib.Core.Path.{_≡_}
+use mathlib.Core.Bool.{Bool, cond}
+use mathlib.Core.Option.{Option, none, some}
+use Prim.Native.Nat.{ℕ, _≤_}
+use lib.IntN.{ℤ}
+use lib.Dec.{eqb}
+use Rattle.reply.specs.Numbers.{empty, fullRate, outgrown}
+use Rattle.envelope.specs.declared.Envelope.{Envelope}
+use Rattle.envelope.specs.declared.Node.{Node}
+use Rattle.envelope.specs.declared.Made.{Made}
+use Rattle.envelope.specs.declared.Made.the-variants.{Whole, Empty, FullRate, Outgrown}
+use Rattle.envelope.specs.declared.Standing.{Standing}
+use Rattle.envelope.specs.declared.Standing.the-variants.{Fine, BeyondLower, BeyondUpper, BeyondL, BeyondN, NoRoom, CommonFactor}
+use Rattle.envelope.specs.Envelope.{Limits, normalOf, notOf, onOf}
+use Rattle.envelope.specs.Standing.{beyondOf, hasRoom}
+
+-- the refusal's number, where there is no envelope
+abbrev pub faultOf : Made → Option ℕ
+faultOf (Whole e) = none
+faultOf Empty = some empty
+faultOf FullRate = some fullRate
+faultOf Outgrown = some outgrown
+
+abbrev pub nodeOf : Envelope → Node
+nodeOf e = record { envelope = e }
+
+-- the fields of a declared node, each within its limit
+pub record Fields (k K : ℤ) (l n : ℕ) : Type 0 where
+  pub limits : Limits (record { k = k; K = K; l = l; n = n })
+  pub n-least : 1 ≤ n
+  pub n-most : n ≤ l
+
+-- "a declared envelope, made normal, with K - k < n - 1" is refused
+unfoldable pub declaredOf : ℤ → ℤ → ℕ → ℕ → Made
+declaredOf k K l n = cond (hasRoom (normalOf k K l n)) (Whole (nodeOf (normalOf k K l n))) Empty
+
+-- an envelope that keeps to the limits of l, k and K
+abbrev pub limitedTo : Standing → Envelope → Made
+limitedTo Fine e = Whole (nodeOf e)
+limitedTo BeyondLower e = Outgrown
+limitedTo BeyondUpper e = Outgrown
+limitedTo BeyondL e = Outgrown
+limitedTo BeyondN e = Outgrown
+limitedTo NoRoom e = Outgrown
+limitedTo CommonFactor e = Outgrown
+
+-- "not or on gives l, k or K beyond the limits" is refused
+unfoldable pub limited : Envelope → Made
+limited e = limitedTo (beyondOf e) e
+
+-- "not where l = n" is refused, "8 before 9"
+unfoldable pub negatedOf : Envelope → Made
+negatedOf e = cond (eqb (e .l) (e .n)) FullRate (limited (notOf e))
+
+unfoldable pub joinedOf : Envelope → Envelope → Made
+joinedOf e f = limited (onOf e f)

@@ -1,0 +1,272 @@
+// Envelopes: their limits, the rules that make them, and what a node of an expression comes to.
+ghost use mathlib.Core.Path.{_≡_};
+ghost use Prim.Native.Nat.{ℕ, _-_, _*_, _≤_, _<_, _^_};
+ghost use lib.IntN.{pos, _+ℤ_, _-ℤ_, _*ℤ_};
+ghost use lib.Signed.{_≤ℤ_};
+ghost use lib.ListN.{length, take, drop};
+ghost use Rattle.envelope.specs.Limits.{lMost, lowerLeast, lowerMost};
+ghost use Rattle.envelope.specs.Envelope.{Limits, Taken, resultOf, normalOf, notOf, onOf};
+ghost use Rattle.envelope.specs.Word.{bitAt, onesIn, wordOf};
+ghost use Rattle.envelope.specs.Standing.{beyondOf, hasRoom, restOf, standingOf};
+ghost use Rattle.envelope.specs.Made.{Fields, declaredOf, limited, negatedOf, joinedOf};
+ghost use Rattle.envelope.specs.Span.{withOf, spanOf};
+
+pub struct Envelope {
+    pub k: i64,
+    pub K: i64,
+    pub l: u64,
+    pub n: u64,
+}
+
+// A taken, normal envelope, or the first limit that is not kept.
+pub enum Standing {
+    Fine,
+    BeyondLower,
+    BeyondUpper,
+    BeyondL,
+    BeyondN,
+    NoRoom,
+    CommonFactor,
+}
+
+// What an evaluated node comes to.
+pub struct Node {
+    pub envelope: Envelope,
+}
+
+// What a rule makes of a node's parts.
+pub enum Made {
+    Whole(Node),
+    Empty,
+    FullRate,
+    Outgrown,
+}
+
+impl Envelope {
+    pub const L_MOST: u64 = 1_000_000;
+
+    pub const LOWER_LEAST: i64 = -1_000_000_000;
+
+    pub const LOWER_MOST: i64 = 1_000_000_000;
+
+    pub const UPPER_LEAST: i64 = 0;
+
+    pub const UPPER_MOST: i64 = 1_000_000_000;
+
+    // The one place through which every node's result goes.
+    fn result(k: i64, K: i64, l: u64, n: u64) -> Envelope
+        ensures { λ r. ⌜ r ≡ resultOf k K l n ⌝ }
+    {
+        Envelope { k, K, l, n }
+    }
+
+    // The four numbers made normal.
+    pub fn normal(k: i64, K: i64, l: u64, n: u64) -> Envelope
+        requires { ⌜ (0 < n) × (n < 2 ^ 63) ⌝ }
+        ensures { λ r. ⌜ r ≡ normalOf k K l n ⌝ }
+    {
+        let g = whole::gcd(l, n);
+        Envelope::result(whole::ceil_div(k, g), whole::floor_div(K, g), l / g, n / g)
+    }
+
+    // 0 and 1 exchanged.
+    pub fn not(self) -> Envelope
+        requires { ⌜ Taken self × (self .n < self .l) ⌝ }
+        ensures { λ r. ⌜ r ≡ notOf self ⌝ }
+    {
+        let n = self.n as i64;
+        let l = self.l as i64;
+        Envelope::result(
+            n - self.K,
+            whole::larger_of(0, l - n - self.k),
+            self.l,
+            self.l - self.n,
+        )
+    }
+
+    // What the 1s of a stream in self read of a stream in b.
+    pub fn on(self, b: Envelope) -> Envelope
+        requires { ⌜ Taken self × Taken b ⌝ }
+        ensures { λ r. ⌜ r ≡ onOf self b ⌝ }
+    {
+        let k = cross(self.k, b.n, b.k, self.l);
+        let top = cross(self.K, b.n, b.K, self.l);
+        Envelope::normal(k, top, self.l * b.l, self.n * b.n)
+    }
+
+    // Whether k, K and l keep to their limits, in this order.
+    pub fn beyond(self) -> Standing
+        ensures { λ r. ⌜ r ≡ beyondOf self ⌝ }
+    {
+        let k = self.k;
+        let top = self.K;
+        if k < Self::LOWER_LEAST {
+            return Standing::BeyondLower;
+        }
+        if Self::LOWER_MOST < k {
+            return Standing::BeyondLower;
+        }
+        if top < Self::UPPER_LEAST {
+            return Standing::BeyondUpper;
+        }
+        if Self::UPPER_MOST < top {
+            return Standing::BeyondUpper;
+        }
+        if Self::L_MOST < self.l {
+            return Standing::BeyondL;
+        }
+        Standing::Fine
+    }
+
+    // Whether some stream lies in it, if it is normal.
+    fn has_room(self) -> bool
+        requires { ⌜ Limits self × (1 ≤ self .n) × (self .n ≤ lMost) ⌝ }
+        ensures { λ r. ⌜ r ≡ hasRoom self ⌝ }
+    {
+        let k = self.k;
+        let top = self.K;
+        let n = self.n as i64;
+        n - 1 <= top - k
+    }
+
+    // n, the room and the common factor, of an envelope whose l, k and K keep to their limits.
+    fn rest(self) -> Standing
+        requires { ⌜ Limits self ⌝ }
+        ensures { λ r. ⌜ r ≡ restOf self ⌝ }
+    {
+        if self.n < 1 {
+            return Standing::BeyondN;
+        }
+        if self.l < self.n {
+            return Standing::BeyondN;
+        }
+        if !self.has_room() {
+            return Standing::NoRoom;
+        }
+        if whole::gcd(self.l, self.n) == 1 {
+            return Standing::Fine;
+        }
+        Standing::CommonFactor
+    }
+
+    // Whether any four numbers are a taken, normal envelope.
+    pub fn standing(self) -> Standing
+        ensures { λ r. ⌜ r ≡ standingOf self ⌝ }
+    {
+        let first = self.beyond();
+        if let Standing::Fine = first {
+            self.rest()
+        } else {
+            first
+        }
+    }
+
+    // A declared node of four fields within their limits.
+    pub fn declared(k: i64, K: i64, l: u64, n: u64) -> Made
+        requires { ⌜ Fields k K l n ⌝ }
+        ensures { λ r. ⌜ r ≡ declaredOf k K l n ⌝ }
+    {
+        let e = Envelope::normal(k, K, l, n);
+        if e.has_room() {
+            return Made::Whole(Node { envelope: e });
+        }
+        Made::Empty
+    }
+
+    fn limited_to(self) -> Made
+        ensures { λ r. ⌜ r ≡ limited self ⌝ }
+    {
+        if let Standing::Fine = self.beyond() {
+            return Made::Whole(Node { envelope: self });
+        }
+        Made::Outgrown
+    }
+
+    pub fn negated(self) -> Made
+        requires { ⌜ Taken self ⌝ }
+        ensures { λ r. ⌜ r ≡ negatedOf self ⌝ }
+    {
+        if self.l == self.n {
+            return Made::FullRate;
+        }
+        self.not().limited_to()
+    }
+
+    pub fn joined(self, b: Envelope) -> Made
+        requires { ⌜ Taken self × Taken b ⌝ }
+        ensures { λ r. ⌜ r ≡ joinedOf self b ⌝ }
+    {
+        self.on(b).limited_to()
+    }
+
+    // A word: its first `prefix` bits, then the others for ever, `ones` of which are 1.
+    pub fn word(bits: &[u8], prefix: usize, ones: u64) -> Envelope
+        requires { ⌜ (prefix ≤ length (now bits)) × (length (now bits) ≤ 128) × (length (now bits) - prefix ≤ 64) ⌝ }
+        requires { ⌜ (0 < ones) × (ones ≤ 64) × (onesIn (drop prefix (now bits)) ≡ ones) ⌝ }
+        ensures { λ r. ⌜ r ≡ wordOf (take prefix (now (bits .entry))) (drop prefix (now (bits .entry))) ⌝ }
+    {
+        let period = (bits.len() - prefix) as u64;
+        let g = whole::gcd(period, ones);
+        let l = period / g;
+        let n = ones / g;
+        let s = spread(bits, l, n);
+        Envelope::result(s.k, s.K, l, n)
+    }
+}
+
+// x * n + y * l, of numbers within an envelope's limits.
+fn cross(x: i64, n: u64, y: i64, l: u64) -> i64
+    requires { ⌜ (n ≤ lMost) × (l ≤ lMost) ⌝ }
+    requires { ⌜ (lowerLeast ≤ℤ x) × (x ≤ℤ lowerMost) ⌝ }
+    requires { ⌜ (lowerLeast ≤ℤ y) × (y ≤ℤ lowerMost) ⌝ }
+    ensures { λ r. ⌜ r ≡ x *ℤ pos n +ℤ y *ℤ pos l ⌝ }
+{
+    x * (n as i64) + y * (l as i64)
+}
+
+// n * t - l * j, of a word's numbers.
+fn offset(n: u64, t: u64, l: u64, j: u64) -> i64
+    requires { ⌜ (n ≤ 64) × (t ≤ 128) × (l ≤ 64) × (j ≤ 128) ⌝ }
+    ensures { λ r. ⌜ r ≡ pos (n * t) -ℤ pos (l * j) ⌝ }
+{
+    (n * t) as i64 - (l * j) as i64
+}
+
+// The smallest and the largest of some numbers.
+pub struct Span {
+    pub k: i64,
+    pub K: i64,
+}
+
+impl Span {
+    // With one number more, after j others.
+    fn with(self, x: i64, j: u64) -> Span
+        ensures { λ r. ⌜ r ≡ withOf self x j ⌝ }
+    {
+        if j == 0 {
+            return Span { k: x, K: x };
+        }
+        Span {
+            k: whole::smaller_of(x, self.k),
+            K: whole::larger_of(x, self.K),
+        }
+    }
+}
+
+// The smallest and the largest n*p(j) - l*j of a word's bits.
+fn spread(bits: &[u8], l: u64, n: u64) -> Span
+    requires { ⌜ (l ≤ 64) × (n ≤ 64) × (length (now bits) ≤ 128) ⌝ }
+    ensures { λ r. ⌜ r ≡ spanOf (bitAt (now (bits .entry))) l n (length (now (bits .entry))) ⌝ }
+{
+    let mut s = Span { k: 0, K: 0 };
+    let mut t: usize = 0;
+    let mut j: u64 = 0;
+    while t < bits.len() {
+        if bits[t] == 1 {
+            s = s.with(offset(n, t as u64, l, j), j);
+            j += 1;
+        }
+        t += 1;
+    }
+    s
+}
