@@ -1,14 +1,14 @@
 -- The fields of a declared node, each within its limit, made normal: l, k and K are still within their limits.
 -- Assumes nothing.
-use mathlib.Core.Path.{_≡_, ap}
-use Prim.Native.Nat.{ℕ, _*_, _/_, _≤_, _<_}
+use mathlib.Core.Path.{ap}
+use Prim.Native.Nat.{ℕ, _*_, _≤_, _<_}
 use native.Mathlib.Nat.{div-le-self, mul-le-mul-left, mul-one}
 use native.Mathlib.Omega.{arith}
 use lib.IntN.{ℤ, pos, negsuc, negℤ, _+ℤ_, _*ℤ_}
 use lib.Signed.{_≤ℤ_, _<ℤ_}
 use Rattle.whole.specs.Rounding.{floorDiv, ceilDiv}
 use Rattle.whole.specs.Euclid.{gcdOf}
-use Rattle.whole.proofs.Bridge.{up, down, sum, up-neg, down-neg, up-mul, down-mul, orders}
+use Rattle.whole.proofs.Bridge.{sum, up-neg, down-neg, up-mul, down-mul, orders}
 use Rattle.whole.proofs.Rounding.{ceil-high, ceil-least, mul-next}
 use Rattle.whole.proofs.Euclid.{gcd-pos}
 use Rattle.envelope.specs.Envelope.{Limits, normalOf}

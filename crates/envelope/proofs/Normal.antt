@@ -1,6 +1,6 @@
 -- Making four numbers normal loses no stream and gains none, and leaves l and n without a common factor.
 -- Assumes nothing.
-use mathlib.Core.Path.{_≡_, refl, sym, ap, ap₂, _∙_, subst}
+use mathlib.Core.Path.{_≡_, sym, ap, ap₂, _∙_, subst}
 use mathlib.Core.Bool.{Bool}
 use Prim.Native.Nat.{ℕ, zero, suc, _+_, _*_, _/_, _≤_, _<_}
 use native.Mathlib.Nat.{add-mul, mul-right-comm, mul-le-mul-right, div-mul-cancel, zero-mul, le-of-mul-le-mul-right}
@@ -13,7 +13,7 @@ use Rattle.whole.proofs.Bridge.{up, down, sum, up-mul, down-mul, orders}
 use Rattle.whole.proofs.Rounding.{ceil-low, ceil-high, floor-low, floor-high, next}
 use Rattle.whole.proofs.Euclid.{gcd-is, gcd-pos, gcd-coprime}
 use Rattle.envelope.specs.Stream.{Within, Keeps}
-use Rattle.envelope.specs.Envelope.{Normal, resultOf, normalOf}
+use Rattle.envelope.specs.Envelope.{Normal, normalOf}
 use Rattle.envelope.proofs.Result.{result-l, result-n, result-keeps, keeps-result}
 
 shuffle : (x y j g : ℕ) → x * g ≡ y → x * j * g ≡ y * j

@@ -2,11 +2,10 @@
 -- Assumes nothing.
 use mathlib.Core.Path.{_≡_, refl}
 use mathlib.Core.Bool.{Bool}
-use Prim.Native.Nat.{ℕ, _≤_}
+use Prim.Native.Nat.{ℕ}
 use lib.IntN.{ℤ}
-use Rattle.envelope.specs.declared.Envelope.{Envelope}
 use Rattle.envelope.specs.Stream.{Within, Keeps}
-use Rattle.envelope.specs.Envelope.{Limits, Room, resultOf}
+use Rattle.envelope.specs.Envelope.{Limits, resultOf}
 
 module _ (k K : ℤ) (l n : ℕ) where
   pub result-l : resultOf k K l n .l ≡ l

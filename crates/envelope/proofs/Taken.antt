@@ -1,6 +1,6 @@
 -- Which results are taken and normal: those of not and on that keep to the limits of l, k and K, a declared one with room, and every word's.
 -- Assumes nothing.
-use mathlib.Core.Path.{_≡_, refl, sym, ap, ap₂, _∙_, subst}
+use mathlib.Core.Path.{_≡_, sym, ap, ap₂, _∙_, subst}
 use mathlib.Core.List.{List}
 use Prim.Native.Nat.{ℕ, zero, suc, _+_, _-_, _*_, _/_, _≤_, _<_, _∣_}
 use native.Mathlib.Nat.{mul-pos, mul-le-mul, mul-zero, zero-mul, div-mul-cancel, div-le-self, le-of-mul-le-mul-right, dvd-sub, dvd-one}
@@ -15,7 +15,7 @@ use Rattle.whole.specs.Laws.{IsGcd}
 use Rattle.whole.proofs.Bridge.{up, down, diff, up-diff-le, down-diff-le, orders}
 use Rattle.whole.proofs.Euclid.{gcd-is, gcd-pos, gcd-coprime}
 use Rattle.envelope.specs.declared.Envelope.{Envelope}
-use Rattle.envelope.specs.Limits.{lowerLeast, lowerMost, upperLeast, upperMost}
+use Rattle.envelope.specs.Limits.{upperLeast}
 use Rattle.envelope.specs.Stream.{Stream, ones, Lies}
 use Rattle.envelope.specs.Envelope.{Normal, Limits, Room, Taken, normalOf, notOf, onOf}
 use Rattle.envelope.specs.Word.{onesIn, wordBit, smallest, largest, wordOffsets, wordOf, LegalWord}

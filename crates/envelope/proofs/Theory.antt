@@ -1,9 +1,8 @@
 -- The theory of streams and envelopes holds.
 -- Assumes nothing.
-use mathlib.Core.Logic.{_↔_}
 use native.Mathlib.Nat.{mul-pos}
 use Rattle.envelope.specs.Theory.{Positions, Inhabited, Holds, Accepted}
-use Rattle.envelope.specs.Envelope.{normalOf, notOf, onOf}
+use Rattle.envelope.specs.Envelope.{notOf, onOf}
 use Rattle.envelope.specs.Word.{wordOf}
 use Rattle.envelope.proofs.Streams.{position, position-only, has-lies}
 use Rattle.envelope.proofs.Some.{none-lies}

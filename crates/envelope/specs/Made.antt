@@ -1,6 +1,5 @@
 -- What a node's rule makes of its parts: an envelope, or the reason why there is none, with document 01's number for it.
-use mathlib.Core.Path.{_≡_}
-use mathlib.Core.Bool.{Bool, cond}
+use mathlib.Core.Bool.{cond}
 use mathlib.Core.Option.{Option, none, some}
 use Prim.Native.Nat.{ℕ, _≤_}
 use lib.IntN.{ℤ}

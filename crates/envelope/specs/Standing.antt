@@ -1,9 +1,9 @@
 -- Whether four numbers are a taken, normal envelope, and the first of its limits that they fail, in the order k, K, l, n, room, common factor.
 use mathlib.Core.Bool.{Bool, cond}
-use Prim.Native.Nat.{ℕ, _-_}
-use lib.IntN.{ℤ, pos, _-ℤ_}
+use Prim.Native.Nat.{_-_}
+use lib.IntN.{pos, _-ℤ_}
 use lib.Signed.{ltZ, leZ}
-use lib.Dec.{ltb, leb, eqb}
+use lib.Dec.{ltb, eqb}
 use Rattle.whole.specs.Euclid.{gcdOf}
 use Rattle.envelope.specs.declared.Envelope.{Envelope}
 use Rattle.envelope.specs.declared.Standing.{Standing}

@@ -1,8 +1,7 @@
 -- Words: "u(v): prefix u, then v for ever", and the envelope of one. A bit is a number, 0 or 1.
-use mathlib.Core.Path.{_≡_}
 use mathlib.Core.Bool.{Bool, cond}
 use mathlib.Core.List.{List, [], _∷_, _++_}
-use Prim.Native.Nat.{ℕ, zero, suc, _+_, _-_, _*_, _/_, _%_, _≤_, _<_}
+use Prim.Native.Nat.{ℕ, zero, suc, _+_, _-_, _*_, _/_, _%_, _≤_}
 use lib.IntN.{ℤ, pos, _-ℤ_}
 use lib.Dec.{ltb, eqb}
 use lib.ListN.{length, getD}

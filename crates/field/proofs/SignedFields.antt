@@ -14,7 +14,7 @@ use mir.ValLaws.{toZ-ofZ}
 use borrow.Author.Tests.{lt-ltb, le-ltb, ltb-true, ltb-false}
 use Rattle.reply.specs.Numbers.{missing, beyond}
 use Rattle.whole.proofs.Bridge.{orders, signed as signs}
-use Rattle.field.specs.Read.{Read, Read.got, Read.refused, pick}
+use Rattle.field.specs.Read.{Read.got, Read.refused, pick}
 use Rattle.field.specs.Spelling.{bytesOf, limit, twos, Small, AllBytes, Bytes}
 use Rattle.field.specs.Field.{lowFirst, fieldAt, signed, signedAt, betweenZ, signedIn}
 use Rattle.field.proofs.Read.{through, pick-left}

@@ -8,7 +8,6 @@ use lib.Dec.{leb, ltb}
 use lib.ListN.{length, getD}
 use Rattle.reply.specs.Numbers.{missing, beyond}
 use Rattle.field.specs.Read.{Read, Read.got, Read.refused, bind, pick}
-use Rattle.field.specs.declared.Cursor.{Cursor}
 use Rattle.field.specs.declared.Field.{Field}
 use Rattle.field.specs.declared.Signed.{Signed}
 

@@ -2,7 +2,6 @@
 use mathlib.Core.Path.{_≡_}
 use mathlib.Core.List.{List}
 use Prim.Native.Nat.{ℕ, _+_, _≤_, _<_}
-use lib.IntN.{ℤ}
 use lib.ListN.{length}
 use Rattle.reply.specs.Numbers.{missing}
 use Rattle.field.specs.Read.{Read, Read.got, Read.refused}

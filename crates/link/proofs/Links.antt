@@ -2,7 +2,6 @@
 -- or a read that is late.
 -- Assumes nothing.
 use mathlib.Core.Path.{_≡_, refl, sym, ap, _∙_, subst}
-use mathlib.Core.Logic.{_⊎_, inl, inr}
 use mathlib.Core.Bool.{Bool, true, false, cond}
 use Prim.Native.Nat.{ℕ, zero, suc, _+_, _-_, _*_, _≤_, _<_}
 use native.Mathlib.Nat.{mul-le-mul-left, mul-suc, mul-add, mul-comm, suc-mul, zero-mul, lt-of-not-le}
@@ -10,17 +9,16 @@ use native.Mathlib.Decide.{decLe}
 use native.Mathlib.Omega.{arith}
 use lib.Dec.{eqb}
 use lib.IntN.{ℤ, pos, negsuc, natAbs, _+ℤ_, _-ℤ_, _*ℤ_}
-use lib.Signed.{_≤ℤ_, _<ℤ_, ltZ}
+use lib.Signed.{_≤ℤ_}
 use borrow.Author.Tests.{eqb-true}
 use Rattle.whole.specs.Rounding.{ceilDiv}
 use Rattle.whole.proofs.Bridge.{sum, diff, up-mul, down-mul, orders, signed}
 use Rattle.whole.proofs.Rounding.{ceil-high, mul-next}
 use Rattle.envelope.specs.declared.Envelope.{Envelope}
 use Rattle.envelope.specs.Envelope.{Taken}
-use Rattle.envelope.specs.Stream.{Stream, ones, Position, Within, Lies}
+use Rattle.envelope.specs.Stream.{Stream, ones, Within, Lies}
 use Rattle.envelope.proofs.Counts.{earlier}
 use Rattle.envelope.proofs.Streams.{later}
-use Rattle.link.specs.declared.Verdict.{Verdict}
 use Rattle.link.specs.declared.Verdict.the-variants.{Accepted, Rates, Early}
 use Rattle.link.specs.Link.{sizeOf, earlyOf, Passes, verdictOf}
 use Rattle.link.specs.Promise.{Serves, Links}

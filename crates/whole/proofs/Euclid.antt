@@ -1,10 +1,10 @@
 -- Laws of Euclid's method: it gives the greatest common divisor, what follows for two numbers with no common factor, and its count of remainders.
 -- Assumes nothing.
-use mathlib.Core.Path.{_≡_, refl, sym, ap, ap₂, _∙_, subst, subst⁻¹}
-use Prim.Native.Nat.{ℕ, zero, suc, _+_, _-_, _*_, _/_, _%_, _≤_, _<_, _∣_, zero-le, suc-le-suc}
-use native.Mathlib.Nat.{le-of-suc-le-suc, lt-of-lt-of-le, mod-lt, dvd-refl, dvd-zero, dvd-mod-iff, dvd-antisymm, dvd-trans, pos-of-dvd-of-pos, div-mul-cancel, mul-div-cancel', mul-dvd-mul-right, dvd-of-mul-dvd-mul-right, dvd-one, one-mul, mul-one, mul-zero, mul-comm, mul-assoc, mul-left-comm, mul-add, add-mul, mul-sub, mul-le-mul-left, mul-le-mul-right, div-add-mod', zero-lt-suc, div-mul-le-self, dvd-of-mod-eq-zero}
+use mathlib.Core.Path.{_≡_, refl, sym, ap, _∙_, subst}
+use Prim.Native.Nat.{ℕ, zero, suc, _+_, _-_, _*_, _/_, _%_, _≤_, _<_, _∣_}
+use native.Mathlib.Nat.{mod-lt, dvd-refl, dvd-zero, dvd-mod-iff, dvd-antisymm, pos-of-dvd-of-pos, div-mul-cancel, mul-dvd-mul-right, dvd-of-mul-dvd-mul-right, dvd-one, one-mul, mul-one, mul-assoc, mul-left-comm, mul-add, add-mul, mul-sub, mul-le-mul-left, mul-le-mul-right, div-add-mod', zero-lt-suc}
 use native.Mathlib.Omega.{arith}
-use Rattle.whole.specs.Euclid.{Euclid, euclid, gcdOf, remaindersOf}
+use Rattle.whole.specs.Euclid.{euclid, gcdOf, remaindersOf}
 use Rattle.whole.specs.Laws.{IsGcd}
 
 -- ---- it is one

@@ -1,5 +1,5 @@
 -- "Rounding up and down mean toward plus and minus infinity, also below zero."
-use Prim.Native.Nat.{ℕ, suc, _/_}
+use Prim.Native.Nat.{ℕ, _/_}
 use lib.IntN.{ℤ, pos, negsuc, negℤ}
 
 -- x divided by d and rounded down. Below zero, -(a + 1) gives -(a/d + 1)

@@ -1,7 +1,7 @@
 -- `from_twos` meets its contract. Assumes nothing.
 use borrow.Author.Needs.{needs}
 use native.Mathlib.Omega.{arith}
-use mathlib.Core.Path.{_≡_, _∙_, sym}
+use mathlib.Core.Path.{_∙_, sym}
 use Prim.Native.Nat.{_-_}
 use mir.ValLaws.{toZ-pos, toZ-ofZ}
 use mir.Syntax.{w64}

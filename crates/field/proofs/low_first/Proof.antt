@@ -1,6 +1,6 @@
 -- `low_first` meets its contract: what stands in v is what the bytes passed spell. Assumes nothing.
 use mathlib.Core.Path.{_≡_, sym, _∙_}
-use Prim.Native.Nat.{_+_, _-_, _*_, _≤_, _<_}
+use Prim.Native.Nat.{_+_, _-_, _≤_, _<_}
 use native.Mathlib.Omega.{arith}
 use native.Mathlib.Nat.{sub-self, sub-zero, add-zero}
 use lib.ListN.{getD}

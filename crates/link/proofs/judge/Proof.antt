@@ -3,12 +3,12 @@
 use borrow.Author.Needs.{needs}
 use borrow.Author.Tests.{eq-eqb, ne-eqb}
 use mathlib.Core.Path.{_≡_, sym, ap, _∙_}
-use mathlib.Core.Bool.{Bool, true, false}
+use mathlib.Core.Bool.{true, false}
 use Prim.Native.Nat.{ℕ}
 use lib.IntN.{natAbs}
 use Rattle.envelope.specs.declared.Envelope.{Envelope}
 use Rattle.link.specs.declared.Verdict.the-variants.{Accepted, Rates, Early}
-use Rattle.link.specs.Link.{sizeOf, earlyOf, Passes, verdictOf}
+use Rattle.link.specs.Link.{sizeOf, earlyOf, verdictOf}
 use Rattle.link.proofs.Links.{early-not}
 use Rattle.link.proofs.judge.Statement.{statement}
 use Rattle.link.proofs.judge.Tie as tie

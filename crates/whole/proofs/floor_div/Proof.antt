@@ -1,7 +1,7 @@
 -- `whole::floor_div` meets its contract: the machine's quotient is rounded toward 0, and the sign of its remainder says whether it is off by one.
 -- Assumes nothing.
 use borrow.Author.Needs.{needs}
-use mathlib.Core.Path.{_≡_, refl, sym, ap, _∙_, subst⁻¹}
+use mathlib.Core.Path.{_≡_, sym, ap, _∙_, subst⁻¹}
 use mathlib.Core.Bool.{Bool, true, false}
 use lib.IntN.{ℤ, pos, _-ℤ_}
 use lib.Signed.{ltZ, quotZ, remZ}

@@ -1,7 +1,6 @@
 -- `whole::gcd` meets its contract. The loop's invariant: x and y have the greatest common divisor of a and b. The measure is y.
 -- Assumes nothing.
 use mathlib.Core.Path.{_≡_, refl, sym, ap, _∙_}
-use Prim.Native.Nat.{ℕ, _<_}
 use native.Mathlib.Nat.{mod-lt, pos-of-ne-zero}
 use native.Mathlib.Omega.{arith}
 use Rattle.whole.specs.Euclid.{gcdOf}

@@ -1,7 +1,6 @@
 -- `Cursor::field` meets its contract: the tests that led to each return say which case of `fieldAt` holds. Assumes nothing.
 use borrow.Author.Needs.{needs}
 use native.Mathlib.Omega.{arith}
-use mathlib.Core.Path.{_≡_}
 use denote.Ref.{now}
 use Rattle.field.proofs.Fields.{field-short, field-whole}
 use Rattle.field.proofs.Cursor.field.Statement.{statement}

@@ -1,6 +1,6 @@
 -- `Cursor::signed` meets its contract: four bytes spell a number of 32 bits. Assumes nothing.
 use borrow.Author.Needs.{needs}
-use mathlib.Core.Path.{_≡_, ap, _∙_, sym}
+use mathlib.Core.Path.{ap, _∙_, sym}
 use native.Mathlib.Omega.{arith}
 use lib.IntN.{ℤ}
 use denote.Ref.{now}
