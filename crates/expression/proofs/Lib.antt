@@ -1,0 +1,13 @@
+pub mod Lookup
+pub mod Evaluated
+pub mod Sound
+pub mod Exists
+pub mod Free
+pub mod Blame
+pub mod Reader
+pub mod Promise
+pub mod Tables
+pub mod Strip
+pub mod Results
+pub mod Fields
+pub mod Answers

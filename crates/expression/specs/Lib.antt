@@ -1,0 +1,9 @@
+pub mod Expression
+pub mod Stands
+pub mod Evaluate
+pub mod Reader
+pub mod Table
+pub mod Parts
+pub mod Spelled
+pub mod Blame
+pub mod Promise

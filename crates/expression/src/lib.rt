@@ -1,0 +1,145 @@
+// Expressions: the evaluator that calls itself, over tables of nodes that are lent and never copied.
+ghost use mathlib.Core.Path.{_≡_};
+ghost use Prim.Native.Nat.{ℕ, _+_, _*_, _<_};
+ghost use lib.ListN.{length};
+ghost use lib.Seq.{sets};
+ghost use Rattle.envelope.specs.Envelope.{Taken};
+ghost use Rattle.expression.specs.Evaluate.{worthOf};
+ghost use Rattle.expression.specs.Reader.{exprAt, mapped, nodeIn, valueOf};
+ghost use Rattle.expression.specs.Table.{Holds, nodesIn, nodeAt, flat};
+ghost use Rattle.expression.specs.Parts.{placed, listedAt, declaredAt};
+use envelope::Envelope;
+use envelope::Made;
+use envelope::Node;
+use field::Cursor;
+use field::Field;
+use field::Signed;
+
+// A node and the cursor past it; or a refusal's number and place.
+pub enum Value {
+    Got(Node, Cursor),
+    Refused(u8, usize),
+}
+
+// What a rule made, with the cursor past the node, or its refusal at the node's tag.
+fn place(made: Made, c: Cursor, tag: usize) -> Value
+    ensures { λ r. ⌜ valueOf r ≡ placed (worthOf made) (c .at) tag ⌝ }
+{
+    match made {
+        Made::Whole(x) => Value::Got(x, c),
+        Made::Empty => Value::Refused(reply::EMPTY, tag),
+        Made::FullRate => Value::Refused(reply::FULL_RATE, tag),
+        Made::Outgrown => Value::Refused(reply::OUTGROWN, tag),
+    }
+}
+
+// The node at index i of a table.
+pub fn entry(table: &[i64], i: usize) -> Node
+    requires { ⌜ (4 * i + 3 < length (now table)) × Holds (now table) ⌝ }
+    ensures { λ r. ⌜ r ≡ nodeAt (now (table .entry)) i ⌝ }
+{
+    let at = 4 * i;
+    Node {
+        envelope: Envelope {
+            k: table[at],
+            K: table[at + 1],
+            l: table[at + 2] as u64,
+            n: table[at + 3] as u64,
+        },
+    }
+}
+
+// The node, stored at index i of a table.
+pub fn store(x: Node, table: &mut [i64], i: usize)
+    requires { ⌜ (4 * i + 3 < length (now table)) × Taken (x .envelope) ⌝ }
+    ensures { λ _. ⌜ now (table .exit) ≡ sets (now (table .entry)) (4 * i) (flat x) ⌝ }
+{
+    let e = x.envelope;
+    let at = 4 * i;
+    let k = e.k;
+    let top = e.K;
+    let l = e.l as i64;
+    let n = e.n as i64;
+    table[at] = k;
+    table[at + 1] = top;
+    table[at + 2] = l;
+    table[at + 3] = n;
+}
+
+// A word or an earlier clock, by its index in a table.
+fn listed(c: Cursor, s: &[u8], table: &[i64]) -> Value
+    requires { ⌜ Holds (now table) ⌝ }
+    ensures { λ r. ⌜ valueOf r ≡ listedAt (now (s .entry)) (now (table .entry)) (c .at) ⌝ }
+{
+    match c.within(s, 2, 0, table.len() / 4, reply::ABSENT) {
+        Field::Refused(number, at) => Value::Refused(number, at),
+        Field::Got(i, d) => Value::Got(entry(table, i), d),
+    }
+}
+
+// A declared node, whose tag stands at `tag`.
+fn declared(c: Cursor, s: &[u8], tag: usize) -> Value
+    ensures { λ r. ⌜ valueOf r ≡ declaredAt (now (s .entry)) tag (c .at) ⌝ }
+{
+    match c.signed_within(s, Envelope::LOWER_LEAST, Envelope::LOWER_MOST) {
+        Signed::Refused(number, at) => Value::Refused(number, at),
+        Signed::Got(k, c) => match c.signed_within(s, Envelope::UPPER_LEAST, Envelope::UPPER_MOST) {
+            Signed::Refused(number, at) => Value::Refused(number, at),
+            Signed::Got(top, c) => match c.within(
+                s,
+                4,
+                1,
+                Envelope::L_MOST as usize + 1,
+                reply::BEYOND,
+            ) {
+                Field::Refused(number, at) => Value::Refused(number, at),
+                Field::Got(l, c) => match c.within(s, 4, 1, l + 1, reply::BEYOND) {
+                    Field::Refused(number, at) => Value::Refused(number, at),
+                    Field::Got(n, c) => place(
+                        Envelope::declared(k, top, l as u64, n as u64),
+                        c,
+                        tag,
+                    ),
+                },
+            },
+        },
+    }
+}
+
+// An expression, of which `depth` levels are left.
+pub fn evaluate(start: Cursor, s: &[u8], words: &[i64], clocks: &[i64], depth: usize) -> Value
+    requires { ⌜ Holds (now words) × Holds (now clocks) ⌝ }
+    ensures { λ r. ⌜ valueOf r ≡ mapped nodeIn (exprAt depth (now (s .entry)) (nodesIn (now (words .entry))) (nodesIn (now (clocks .entry))) (start .at)) ⌝ }
+{
+    let tag_at = start.at;
+    match start.within(s, 1, 1, 6, reply::UNKNOWN) {
+        Field::Refused(number, at) => Value::Refused(number, at),
+        Field::Got(tag, c) => {
+            if depth == 0 {
+                return Value::Refused(reply::TOO_DEEP, tag_at);
+            }
+            if tag == 1 {
+                return listed(c, s, words);
+            }
+            if tag == 2 {
+                return declared(c, s, tag_at);
+            }
+            if tag == 5 {
+                return listed(c, s, clocks);
+            }
+            let a = evaluate(c, s, words, clocks, depth - 1);
+            let Value::Got(x, d) = a else {
+                return a;
+            };
+            let e = x.envelope;
+            if tag == 3 {
+                return place(e.negated(), d, tag_at);
+            }
+            let b = evaluate(d, s, words, clocks, depth - 1);
+            let Value::Got(y, f) = b else {
+                return b;
+            };
+            place(e.joined(y.envelope), f, tag_at)
+        }
+    }
+}
