@@ -1,0 +1,163 @@
+-- What each function has found, as its answer, and what it has written.
+-- Assumes nothing.
+use Prim.Native.Nat.{ℕ, suc, _-_, _≤_, _<_}
+use native.Mathlib.Nat.{sub-zero}
+use native.Mathlib.Omega.{arith}
+use mathlib.Core.Path.{_≡_, sym, ap, subst, _∙_}
+use mathlib.Core.Bool.{true, false}
+use mathlib.Core.List.{List, _∷_, _++_}
+use mathlib.Core.Option.{none, some}
+use lib.IntN.{ℤ, pos}
+use lib.ListN.{length, take, set, length-set}
+use lib.Seq.{take-suc-set, append-snoc}
+use mir.Syntax.{w64}
+use mir.Val.{SFits, toZ, ofZ}
+use mir.Facts.{toZ-ofZ}
+use borrow.Author.Tests.{lt-ltb, le-ltb}
+use Rattle.reply.specs.Numbers.{noEnvelope, longPattern, notABit}
+use Rattle.envelope.specs.declared.Envelope.{Envelope}
+use Rattle.envelope.specs.Envelope.{Taken}
+use Rattle.envelope.specs.Standing.{standingOf}
+use Rattle.pattern.specs.declared.Mark.{Mark}
+use Rattle.pattern.specs.declared.Answer.{Answer}
+use Rattle.pattern.specs.declared.Answer.the-variants.{Inside, Done, Last, Refused}
+use Rattle.pattern.specs.declared.Judged.{Judged}
+use Rattle.pattern.specs.declared.Judged.the-variants.{Sound, Unsound}
+use Rattle.pattern.specs.Pattern.{longest, plain}
+use Rattle.pattern.specs.Answer.{given, isFine, checkAnswer, firstAnswer, firstBytes, nextOf, nextAnswer, nextBytes}
+use Rattle.pattern.specs.Scan.{Near, onward, filled, unmarked, scanned, judged}
+use Rattle.pattern.proofs.Offsets.{offset-start, filled-is, near-on, near-more, near-held}
+use Rattle.pattern.proofs.Replies.{fromMark, next-mark, Sane, sane, answerOf, judged-check, Passes, sound-is}
+
+-- ---- four numbers, as the machine holds them: what is said of those is said of the numbers
+abbrev pub heldOf : ℤ → ℤ → ℕ → ℕ → Envelope
+heldOf k K l n = given (toZ w64 (ofZ w64 k)) (toZ w64 (ofZ w64 K)) l n
+
+module _ (k K : ℤ) (l n : ℕ) (f : SFits w64 k) (g : SFits w64 K) where
+  held-given : heldOf k K l n ≡ given k K l n
+  held-given = λ i. given (toZ-ofZ f i) (toZ-ofZ g i) l n
+
+  -- an answer
+  pub answer-given : (answer : Envelope → List ℕ → Answer) {p : List ℕ} {r : Answer} → r ≡ answer (heldOf k K l n) p → r ≡ answer (given k K l n) p
+  answer-given answer {p} h = h ∙ ap (λ (e : Envelope). answer e p) held-given
+
+  -- an answer and what is written
+  pub both-given : (answer : Envelope → List ℕ → Answer) (bytes : Envelope → List ℕ → List ℕ) {p : List ℕ} {r : Answer} {w : List ℕ} → (r ≡ answer (heldOf k K l n) p) × (w ≡ bytes (heldOf k K l n) p) → (r ≡ answer (given k K l n) p) × (w ≡ bytes (given k K l n) p)
+  both-given answer bytes {p} h =
+      (answer-given answer (h .0), h .1 ∙ ap (λ (e : Envelope). bytes e p) held-given)
+
+module _ (e : Envelope) (p : List ℕ) where
+  -- ---- judge
+  module _ (fine : isFine (standingOf e) ≡ true) where
+    pub judge-long : longest < length p → Unsound longPattern 0 ≡ judged e p
+    unfolding judged
+    judge-long h = rw (fine, lt-ltb longest (length p) h)
+
+    module _ (short : length p ≤ longest) where
+      pub judge-unbit : (b : ℕ) → b ≡ plain p → b < length p → Unsound notABit b ≡ judged e p
+      unfolding judged
+      judge-unbit b q k =
+          let h : plain p < length p = omega arith in
+          rw (fine, le-ltb longest (length p) short, lt-ltb (plain p) (length p) h, q)
+
+      pub judge-scan : (j : Judged) → length p ≤ plain p → j ≡ scanned e 0 (pos 0) unmarked p → j ≡ judged e p
+      unfolding judged
+      judge-scan j k q = rw (fine, le-ltb longest (length p) short, le-ltb (plain p) (length p) k) q
+
+  pub judge-none : isFine (standingOf e) ≡ false → Unsound noEnvelope 0 ≡ judged e p
+  unfolding judged
+  judge-none h = rw h
+
+  -- ---- check
+  pub check-is : (j : Judged) → j ≡ judged e p → answerOf e j ≡ checkAnswer e p
+  check-is j q = ap (answerOf e) q ∙ judged-check e p
+
+  -- ---- first
+  pub first-none : isFine (standingOf e) ≡ false → (Refused noEnvelope 0 ≡ firstAnswer e p) × (p ≡ firstBytes e p)
+  unfolding firstAnswer firstBytes
+  first-none h = (rw h, rw h)
+
+  pub first-long : isFine (standingOf e) ≡ true → longest < length p → (Refused longPattern 0 ≡ firstAnswer e p) × (p ≡ firstBytes e p)
+  unfolding firstAnswer firstBytes
+  first-long f h = (rw (f, lt-ltb longest (length p) h), rw (f, lt-ltb longest (length p) h))
+
+  pub first-done : isFine (standingOf e) ≡ true → length p ≤ longest → (q : List ℕ) → q ≡ filled e (pos 0) (length p - 0) → (Done ≡ firstAnswer e p) × (q ≡ firstBytes e p)
+  unfolding firstAnswer firstBytes
+  first-done f h q w =
+      let all : filled e (pos 0) (length p) ≡ filled e _ (length p) = ap (λ (d : ℤ). filled e d (length p)) (sym (offset-start e)) in
+      (rw (f, le-ltb longest (length p) h), rw (f, le-ltb longest (length p) h) ((rw sub-zero at w) ∙ all ∙ filled-is e (length p) 0 0))
+
+  -- ---- next
+  pub next-bad : (number place : ℕ) → Unsound number place ≡ judged e p → (Refused number place ≡ nextAnswer e p) × (p ≡ nextBytes e p)
+  unfolding nextAnswer nextBytes
+  next-bad number place q =
+      let w : checkAnswer e p ≡ Refused number place = sym (check-is (Unsound number place) q) in
+      (rw w, rw w)
+
+  module _ (m : Mark) (q : Sound m ≡ judged e p) where
+    passing : Passes e p m
+    passing = sound-is e p m q
+
+    is-inside : checkAnswer e p ≡ Inside
+    is-inside = sym (check-is (Sound m) q)
+
+    next-fine : nextOf e p ≡ fromMark e p (m .place) (m .offset)
+    next-fine = sym (next-mark e p) ∙ ap (λ (r : Mark). fromMark e p (r .place) (r .offset)) (sym (passing .is-last))
+
+    pub next-last : m .place ≡ 0 → (Last ≡ nextAnswer e p) × (p ≡ nextBytes e p)
+    unfolding nextAnswer nextBytes
+    next-last h =
+        let n : nextOf e p ≡ none = next-fine ∙ ap (λ (t : ℕ). fromMark e p t (m .offset)) h in
+        (rw (is-inside, n), rw (is-inside, n))
+
+    -- ---- where there is a mark, its 0 becomes a 1
+    module _ (some-mark : m .place ≡ 0 → ⊥) where
+      -- one place before the mark's number
+      mark-is : m .place ≡ suc (m .place - 1)
+      mark-is = omega (arith, some-mark)
+
+      sane-mark : Sane e (length p) m
+      sane-mark = subst (Sane e (length p)) (sym (passing .is-last)) (sane e (passing .taken) p)
+
+      pub within : m .place ≤ length p
+      within = sane-mark .within
+
+      pub short : length p ≤ longest
+      short = passing .short
+
+      pub taken : Taken e
+      taken = passing .taken
+
+      near-mark : Near (m .place - 1) (m .offset)
+      near-mark = sane-mark .near (m .place - 1) mark-is
+
+      mark-held : toZ w64 (ofZ w64 (m .offset)) ≡ m .offset
+      mark-held = near-held (m .place - 1) (m .offset) (omega (arith, within, short)) near-mark
+
+      pub near-held-mark : Near longest (toZ w64 (ofZ w64 (m .offset)))
+      near-held-mark = rw mark-held (near-more (m .place - 1) longest (m .offset) (omega (arith, within, short)) near-mark)
+
+      near-raised : Near (m .place) (onward e (m .offset) 1)
+      near-raised = subst (λ (k : ℕ). Near k (onward e (m .offset) 1)) (sym mark-is) (near-on e taken (m .place - 1) (m .offset) 1 near-mark)
+
+      -- the offset after that 1, of which the machine has r
+      module _ (r : ℤ) (is-on : r ≡ onward e (toZ w64 (ofZ w64 (m .offset))) 1) where
+        raised-held : toZ w64 (ofZ w64 r) ≡ onward e (m .offset) 1
+        raised-held =
+            ap (λ (d : ℤ). toZ w64 (ofZ w64 d)) (is-on ∙ ap (λ (d : ℤ). onward e d 1) mark-held)
+            ∙ near-held (m .place) (onward e (m .offset) 1) (omega (arith, within, short)) near-raised
+
+        pub near-after : Near (m .place) (toZ w64 (ofZ w64 r))
+        near-after = rw raised-held near-raised
+
+        pub next-done : (w : List ℕ) → w ≡ take (m .place) (set p (m .place - 1) 1) ++ filled e (toZ w64 (ofZ w64 r)) (length (set p (m .place - 1) 1) - m .place) → (Done ≡ nextAnswer e p) × (w ≡ nextBytes e p)
+        unfolding nextAnswer nextBytes
+        next-done w h =
+            let t : ℕ = m .place - 1 in
+            let d : ℤ = onward e (m .offset) 1 in
+            let tail : List ℕ = filled e d (length p - suc t) in
+            let in-p : t < length p = omega (arith, mark-is, within) in
+            let n : nextOf e p ≡ some (take t p ++ (1 ∷ tail)) = next-fine ∙ ap (λ (k : ℕ). fromMark e p k (m .offset)) mark-is in
+            let h′ : w ≡ take (suc t) (set p t 1) ++ filled e d (length (set p t 1) - suc t) = h ∙ ap (λ (x : ℤ). take (m .place) (set p t 1) ++ filled e x (length (set p t 1) - m .place)) raised-held ∙ ap (λ (k : ℕ). take k (set p t 1) ++ filled e d (length (set p t 1) - k)) mark-is in
+            let moved : w ≡ take t p ++ (1 ∷ tail) = h′ ∙ rw (length-set p t 1, take-suc-set p t 1 in-p) (append-snoc (take t p) 1 tail) in
+            (rw (is-inside, n), rw (is-inside, n) moved)

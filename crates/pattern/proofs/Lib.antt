@@ -1,0 +1,15 @@
+pub mod Lists
+pub mod Walking
+pub mod Least
+pub mod Binary
+pub mod Streams
+pub mod Edges
+pub mod Offsets
+pub mod Loops
+pub mod Replies
+pub mod Answers
+pub mod Beginnings
+pub mod Checks
+pub mod Successors
+pub mod Promises
+pub mod Figures

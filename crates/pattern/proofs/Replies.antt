@@ -1,0 +1,215 @@
+-- What the scan finds is what the answers say, and from its mark comes the successor.
+-- Assumes nothing.
+use Prim.Native.Nat.{ℕ, zero, suc, _+_, _-_, _≤_}
+use native.Mathlib.Nat.{not-suc-le-zero, le-of-suc-le-suc, add-zero, zero-add, add-suc, suc-add}
+use native.Mathlib.Numerals.{add-one}
+use native.Mathlib.Omega.{arith}
+use mathlib.Core.Path.{_≡_, refl, ap, subst, _∙_}
+use mathlib.Core.Bool.{Bool, true, false, cond}
+use mathlib.Core.List.{List, [], _∷_, _++_}
+use mathlib.Core.Option.{Option, none, some}
+use lib.IntN.{ℤ, pos}
+use lib.ListN.{length, take, length-append}
+use lib.Seq.{take-at, append-snoc}
+use lib.Dec.{leb, ltb, leb·suc-suc, leb·zero}
+use borrow.Author.Tests.{ltb-false, leb-true}
+use Rattle.reply.specs.Numbers.{noEnvelope, longPattern, notABit, outside}
+use Rattle.envelope.specs.declared.Envelope.{Envelope}
+use Rattle.envelope.specs.declared.Standing.{Standing}
+use Rattle.envelope.specs.declared.Standing.the-variants.{Fine, BeyondLower, BeyondUpper, BeyondL, BeyondN, NoRoom, CommonFactor}
+use Rattle.envelope.specs.Envelope.{Taken}
+use Rattle.envelope.specs.Standing.{standingOf}
+use Rattle.envelope.proofs.Standings.{standing-fine, fine-standing}
+use Rattle.pattern.specs.declared.Mark.{Mark}
+use Rattle.pattern.specs.declared.Answer.{Answer}
+use Rattle.pattern.specs.declared.Answer.the-variants.{Inside, Refused}
+use Rattle.pattern.specs.declared.Judged.{Judged}
+use Rattle.pattern.specs.declared.Judged.the-variants.{Sound, Unsound}
+use Rattle.pattern.specs.Step.{oneMay, zeroMay}
+use Rattle.pattern.specs.Pattern.{longest, after, may, passed, next, raised, plain}
+use Rattle.pattern.specs.Answer.{isFine, stepsOf, nextOf, checkAnswer}
+use Rattle.pattern.specs.Scan.{Near, oneAt, onward, filled, marked, unmarked, scanned, judged}
+use Rattle.pattern.proofs.Binary.{Bits}
+use Rattle.pattern.proofs.Offsets.{offsetOf, offset-start, onward-is, one-is, may-is, filled-is, near-start, near-on}
+
+-- ---- four numbers that are a taken, normal envelope
+fine-true : (s : Standing) → isFine s ≡ true → s ≡ Fine
+fine-true Fine h = refl
+fine-true BeyondLower h = let w : _≡_ {A = ℕ} 0 1 = cc in absurd (omega arith)
+fine-true BeyondUpper h = let w : _≡_ {A = ℕ} 0 1 = cc in absurd (omega arith)
+fine-true BeyondL h = let w : _≡_ {A = ℕ} 0 1 = cc in absurd (omega arith)
+fine-true BeyondN h = let w : _≡_ {A = ℕ} 0 1 = cc in absurd (omega arith)
+fine-true NoRoom h = let w : _≡_ {A = ℕ} 0 1 = cc in absurd (omega arith)
+fine-true CommonFactor h = let w : _≡_ {A = ℕ} 0 1 = cc in absurd (omega arith)
+
+pub fine-false : (s : Standing) → (s ≡ Fine → ⊥) → isFine s ≡ false
+fine-false s f = go (isFine s) refl
+  where
+    go : (b : Bool) → isFine s ≡ b → b ≡ false
+    go true q = absurd (f (fine-true s q))
+    go false q = refl
+
+pub is-taken : (e : Envelope) → isFine (standingOf e) ≡ true → Taken e
+is-taken e h = standing-fine e (fine-true (standingOf e) h)
+
+pub taken-is : (e : Envelope) → Taken e → isFine (standingOf e) ≡ true
+taken-is e t = ap isFine (fine-standing e t)
+
+-- ---- bytes that are all bits
+pub bits-of : (p : List ℕ) → length p ≤ plain p → Bits p
+bits-of [] h = tt
+bits-of (b ∷ p) h = go (leb b 1) refl (bits-of p)
+  where
+    go : (t : Bool) → leb b 1 ≡ t → (length p ≤ plain p → Bits p) → Bits (b ∷ p)
+    go true q ih = (leb-true b 1 q, ih (le-of-suc-le-suc (rw q at h)))
+    go false q ih = absurd (not-suc-le-zero (rw q at h))
+
+module _ (e : Envelope) where
+  abbrev z : ℕ → ℕ → Bool
+  z = zeroMay e
+
+  abbrev o : ℕ → ℕ → Bool
+  o = oneMay e
+
+  -- the mark at the end of p, where m is the mark at place i and d the offset there
+  abbrev pub lastMark : ℕ → ℤ → Mark → List ℕ → Mark
+  lastMark i d m [] = m
+  lastMark i d m (b ∷ p) = lastMark (suc i) (onward e d b) (marked e i d m b) p
+
+  -- the scan stops at the first forbidden step, or has the last mark
+  scan-is : (p : List ℕ) (i j : ℕ) (m : Mark) → Bits p → scanned e i (offsetOf e i j) m p ≡ cond (ltb (passed z o i j p) (length p)) (Unsound outside (i + passed z o i j p)) (Sound (lastMark i (offsetOf e i j) m p))
+  scan-is [] i j m h = refl
+  scan-is (b ∷ p) i j m h = go (may z o i j b) refl (scan-is p (suc i) (after j b) (marked e i (offsetOf e i j) m b) (h .1))
+    where
+      d : ℤ
+      d = offsetOf e i j
+
+      k : ℕ
+      k = passed z o (suc i) (after j b) p
+
+      go : (t : Bool) → may z o i j b ≡ t → scanned e (suc i) (offsetOf e (suc i) (after j b)) (marked e i d m b) p ≡ cond (ltb k (length p)) (Unsound outside (suc i + k)) (Sound (lastMark (suc i) (offsetOf e (suc i) (after j b)) (marked e i d m b) p)) → scanned e i d m (b ∷ p) ≡ cond (ltb (passed z o i j (b ∷ p)) (length (b ∷ p))) (Unsound outside (i + passed z o i j (b ∷ p))) (Sound (lastMark i d m (b ∷ p)))
+      go true q ih = rw (← may-is e i j b (h .0), q, onward-is e i j b, leb·suc-suc (suc k) (length p), add-suc i k, ← suc-add i k) ih
+      go false q ih = rw (← may-is e i j b (h .0), q, leb·suc-suc 0 (length p), leb·zero, add-zero)
+
+  -- ---- the successor, from the last mark
+  abbrev pub fromMark : List ℕ → ℕ → ℤ → Option (List ℕ)
+  fromMark w zero d = none
+  fromMark w (suc t) d = some (take t w ++ (1 ∷ filled e (onward e d 1) (length w - suc t)))
+
+  abbrev front : List ℕ → Option (List ℕ) → Option (List ℕ) → Option (List ℕ)
+  front pre none other = other
+  front pre (some q) other = some (pre ++ q)
+
+  from-last : (p pre : List ℕ) (i j : ℕ) (m : Mark) → length pre ≡ i → fromMark (pre ++ p) (lastMark i (offsetOf e i j) m p .place) (lastMark i (offsetOf e i j) m p .offset) ≡ front pre (next z o i j p) (fromMark (pre ++ p) (m .place) (m .offset))
+  from-last [] pre i j m h = refl
+  from-last (b ∷ p) pre i j m h =
+      go (next z o (suc i) (after j b) p) refl
+      (rw (append-snoc pre b p) at (from-last p (pre ++ (b ∷ [])) (suc i) (after j b) (marked e i (offsetOf e i j) m b) (length-append pre (b ∷ []) ∙ add-one (length pre) ∙ ap suc h)))
+    where
+      w : List ℕ
+      w = pre ++ (b ∷ p)
+
+      d : ℤ
+      d = offsetOf e i j
+
+      end : Mark
+      end = lastMark (suc i) (offsetOf e (suc i) (after j b)) (marked e i d m b) p
+
+      same : lastMark i d m (b ∷ p) ≡ end
+      same = ap (λ (x : ℤ). lastMark (suc i) x (marked e i d m b) p) (onward-is e i j b)
+
+      raise : (c : ℕ) (t : Bool) → o i j ≡ t → fromMark w (marked e i d m c .place) (marked e i d m c .offset) ≡ front pre (raised z o i j c (length p)) (fromMark w (m .place) (m .offset))
+      raise zero true q =
+          let el : length w - suc i ≡ length p = omega (arith, length-append pre (b ∷ p)) in
+          rw (← one-is e i j, q, take-at pre (b ∷ p) i h, el, onward-is e i j 1, filled-is e (length p) (suc i) (suc j))
+      raise zero false q = rw (← one-is e i j, q)
+      raise (suc c) t q = refl
+
+      go : (r : Option (List ℕ)) → next z o (suc i) (after j b) p ≡ r → fromMark w (end .place) (end .offset) ≡ front (pre ++ (b ∷ [])) (next z o (suc i) (after j b) p) (fromMark w (marked e i d m b .place) (marked e i d m b .offset)) → fromMark w (lastMark i d m (b ∷ p) .place) (lastMark i d m (b ∷ p) .offset) ≡ front pre (next z o i j (b ∷ p)) (fromMark w (m .place) (m .offset))
+      go none q ih = rw (same, q) ((rw q at ih) ∙ raise b (o i j) refl)
+      go (some r) q ih = rw (same, q) ((rw q at ih) ∙ ap {B = Option (List ℕ)} some (append-snoc pre b r))
+
+  -- the mark at the end of a pattern
+  abbrev pub markOf : List ℕ → Mark
+  markOf p = lastMark 0 (pos 0) unmarked p
+
+  pub next-mark : (p : List ℕ) → fromMark p (markOf p .place) (markOf p .offset) ≡ nextOf e p
+  next-mark p =
+      subst (λ (d : ℤ). fromMark p (lastMark 0 d unmarked p .place) (lastMark 0 d unmarked p .offset) ≡ nextOf e p) (offset-start e)
+      (from-last p [] 0 0 unmarked refl ∙ go (nextOf e p))
+    where
+      go : (r : Option (List ℕ)) → front [] r none ≡ r
+      go none = refl
+      go (some q) = refl
+
+  -- ---- what is known of a mark after i bits
+  pub record Sane (i : ℕ) (m : Mark) : Type 0 where
+    pub within : m .place ≤ i
+    pub near : (t : ℕ) → m .place ≡ suc t → Near t (m .offset)
+
+  module _ (t : Taken e) where
+    sane-step : (i : ℕ) (d : ℤ) (m : Mark) (b : ℕ) → Near i d → Sane i m → Sane (suc i) (marked e i d m b)
+    sane-step i d m zero v s = go (oneAt e d) refl
+      where
+        go : (x : Bool) → oneAt e d ≡ x → Sane (suc i) (marked e i d m zero)
+        go true q = rw q (record { within = omega arith; near = λ u h. subst (λ (k : ℕ). Near k d) (omega arith) v })
+        go false q = rw q (record { within = (let f = s .within in omega arith); near = s .near })
+    sane-step i d m (suc b) v s = record { within = (let f = s .within in omega arith); near = s .near }
+
+    sane-last : (p : List ℕ) (i : ℕ) (d : ℤ) (m : Mark) → Near i d → Sane i m → Sane (i + length p) (lastMark i d m p)
+    sane-last [] i d m v s = rw add-zero s
+    sane-last (b ∷ p) i d m v s =
+        rw (add-suc, ← suc-add) (sane-last p (suc i) (onward e d b) (marked e i d m b) (near-on e t i d b v) (sane-step i d m b v s))
+
+    pub sane : (p : List ℕ) → Sane (length p) (markOf p)
+    sane p =
+        rw zero-add at (sane-last p 0 (pos 0) unmarked near-start (record { within = omega arith; near = λ u h. absurd (omega arith) }))
+
+  -- ---- what is judged, as an answer
+  abbrev pub answerOf : Judged → Answer
+  answerOf (Sound m) = Inside
+  answerOf (Unsound number place) = Refused number place
+
+  whole-scan : (p : List ℕ) → Bits p → scanned e 0 (pos 0) unmarked p ≡ cond (ltb (stepsOf e p) (length p)) (Unsound outside (stepsOf e p)) (Sound (markOf p))
+  whole-scan p h =
+      subst (λ (d : ℤ). scanned e 0 d unmarked p ≡ cond (ltb (stepsOf e p) (length p)) (Unsound outside (stepsOf e p)) (Sound (lastMark 0 d unmarked p))) (offset-start e)
+      (rw zero-add at (scan-is p 0 0 unmarked h))
+
+  pub judged-check : (p : List ℕ) → answerOf (judged e p) ≡ checkAnswer e p
+  unfolding judged checkAnswer
+  judged-check p = go (isFine (standingOf e)) (ltb longest (length p)) (ltb (plain p) (length p)) refl
+    where
+      steps : (c : Bool) → answerOf (cond c (Unsound outside (stepsOf e p)) (Sound (markOf p))) ≡ cond c (Refused outside (stepsOf e p)) Inside
+      steps true = refl
+      steps false = refl
+
+      go : (a b c : Bool) → ltb (plain p) (length p) ≡ c → answerOf (cond a (cond b (Unsound longPattern 0) (cond c (Unsound notABit (plain p)) (scanned e 0 (pos 0) unmarked p))) (Unsound noEnvelope 0)) ≡ cond a (cond b (Refused longPattern 0) (cond c (Refused notABit (plain p)) (cond (ltb (stepsOf e p) (length p)) (Refused outside (stepsOf e p)) Inside))) (Refused noEnvelope 0)
+      go true true c q = refl
+      go true false true q = refl
+      go true false false q = ap answerOf (whole-scan p (bits-of p (ltb-false (plain p) (length p) q))) ∙ steps (ltb (stepsOf e p) (length p))
+      go false b c q = refl
+
+  -- a pattern that passes
+  pub record Passes (p : List ℕ) (m : Mark) : Type 0 where
+    pub taken : Taken e
+    pub short : length p ≤ longest
+    pub is-last : m ≡ markOf p
+
+  pub sound-is : (p : List ℕ) (m : Mark) → Sound m ≡ judged e p → Passes p m
+  unfolding judged
+  sound-is p m h = go (isFine (standingOf e)) (ltb longest (length p)) (ltb (plain p) (length p)) refl refl refl h
+    where
+      steps : (c : Bool) → Sound m ≡ cond c (Unsound outside (stepsOf e p)) (Sound (markOf p)) → m ≡ markOf p
+      steps true q = let w : _≡_ {A = ℕ} 0 1 = cc in absurd (omega arith)
+      steps false q = cc
+
+      go : (a b c : Bool) → isFine (standingOf e) ≡ a → ltb longest (length p) ≡ b → ltb (plain p) (length p) ≡ c → Sound m ≡ cond a (cond b (Unsound longPattern 0) (cond c (Unsound notABit (plain p)) (scanned e 0 (pos 0) unmarked p))) (Unsound noEnvelope 0) → Passes p m
+      go true true c ea eb ec q = let w : _≡_ {A = ℕ} 0 1 = cc in absurd (omega arith)
+      go true false true ea eb ec q = let w : _≡_ {A = ℕ} 0 1 = cc in absurd (omega arith)
+      go true false false ea eb ec q =
+          record {
+            taken = is-taken e ea;
+            short = ltb-false longest (length p) eb;
+            is-last = steps (ltb (stepsOf e p) (length p)) (q ∙ whole-scan p (bits-of p (ltb-false (plain p) (length p) ec)));
+          }
+      go false b c ea eb ec q = let w : _≡_ {A = ℕ} 0 1 = cc in absurd (omega arith)

@@ -1,0 +1,115 @@
+-- `pattern::next` meets its contract.
+-- Assumes nothing.
+use borrow.Author.Needs.{needs}
+use native.Mathlib.Omega.{arith}
+use mathlib.Core.Path.{sym, _∙_}
+use lib.ListN.{length-set}
+use Rattle.envelope.specs.declared.Envelope.{Envelope}
+use Rattle.pattern.specs.Answer.{nextAnswer, nextBytes}
+use Rattle.pattern.proofs.Answers.{heldOf, both-given, next-bad, next-last, next-done, within, short, taken, near-held-mark, near-after}
+use Rattle.pattern.proofs.next.Statement.{statement}
+use Rattle.pattern.proofs.next.Tie as tie
+
+abbrev held : tie.Start → Envelope
+held s = heldOf (s .args .k) (s .args .K) (s .args .l) (s .args .n)
+
+judge-requires : tie.Need-judge-requires
+judge-requires c κs = search needs
+
+enum-known-number : tie.Need-enum-known-number
+enum-known-number c = search needs
+
+enum-known-m : tie.Need-enum-known-m
+enum-known-m c = search needs
+
+same-length : tie.Need-same-length
+same-length c = search needs
+
+returns : tie.Need-returns
+returns c =
+    let k = c .before .before in
+    let j = k .before .before in
+    let s = j .before .before .before in
+    both-given (s .args .k) (s .args .K) (s .args .l) (s .args .n) (s .fits .k) (s .fits .K) nextAnswer nextBytes
+    (next-last (held s) (s .args .pattern .now) (k .m .given .0 .0) (sym (k .m .given .1) ∙ j .judge .ensures) (c .if1 .taken))
+
+sub-pattern : tie.Need-sub-pattern
+sub-pattern c = search needs
+
+slice-write-pattern : tie.Need-slice-write-pattern
+slice-write-pattern c =
+    let k = c .before .before in
+    let j = k .before .before in
+    let s = j .before .before .before in
+    omega (arith, within (held s) (s .args .pattern .now) (k .m .given .0 .0) (sym (k .m .given .1) ∙ j .judge .ensures) (c .if1 .left), c .if1 .left)
+
+moved-on-requires : tie.Need-moved-on-requires
+moved-on-requires c κs =
+    let t = c .before in
+    let k = t .before .before in
+    let j = k .before .before in
+    let s = j .before .before .before in
+    let m = k .m .given .0 .0 in
+    let q = sym (k .m .given .1) ∙ j .judge .ensures in
+    (taken (held s) (s .args .pattern .now) m q (t .if1 .left), near-held-mark (held s) (s .args .pattern .now) m q (t .if1 .left))
+
+fill-requires : tie.Need-fill-requires
+fill-requires c κs =
+    let o = c .before in
+    let t = o .before .before in
+    let k = t .before .before in
+    let j = k .before .before in
+    let s = j .before .before .before in
+    let p = s .args .pattern .now in
+    let m = k .m .given .0 .0 in
+    let q = sym (k .m .given .1) ∙ j .judge .ensures in (
+      taken (held s) p m q (t .if1 .left),
+      rw length-set (short (held s) p m q (t .if1 .left)),
+      rw length-set (within (held s) p m q (t .if1 .left)),
+      near-after (held s) p m q (t .if1 .left) (o .moved-on .result) (o .moved-on .ensures),
+    )
+
+same-length-2 : tie.Need-same-length-2
+same-length-2 c = search needs
+
+returns-2 : tie.Need-returns-2
+returns-2 c =
+    let k = c .before in
+    let j = k .before .before in
+    let s = j .before .before .before in
+    let g = k .number .given in
+    both-given (s .args .k) (s .args .K) (s .args .l) (s .args .n) (s .fits .k) (s .fits .K) nextAnswer nextBytes
+    (next-bad (held s) (s .args .pattern .now) (g .0 .0) (g .0 .1 .0) (sym (g .1) ∙ j .judge .ensures))
+
+same-length-3 : tie.Need-same-length-3
+same-length-3 c = c .before .before .fill .kept .1 .0 ∙ simp length-set
+
+returns-3 : tie.Need-returns-3
+returns-3 c =
+    let w = c .before .before in
+    let o = w .before .before in
+    let t = o .before .before in
+    let k = t .before .before in
+    let j = k .before .before in
+    let s = j .before .before .before in
+    let q = sym (k .m .given .1) ∙ j .judge .ensures in
+    both-given (s .args .k) (s .args .K) (s .args .l) (s .args .n) (s .fits .k) (s .fits .K) nextAnswer nextBytes
+    (next-done (held s) (s .args .pattern .now) (k .m .given .0 .0) q (t .if1 .left) (o .moved-on .result) (o .moved-on .ensures) (w .fill .last .1 .0) (w .fill .ensures))
+
+pub next-spec : {M : Type 1} → statement M
+next-spec =
+    tie.close
+    (tie.spec
+    judge-requires
+    enum-known-number
+    enum-known-m
+    same-length
+    returns
+    sub-pattern
+    slice-write-pattern
+    moved-on-requires
+    fill-requires
+    same-length-2
+    returns-2
+    same-length-3
+    returns-3)

@@ -1,0 +1,102 @@
+-- What `check`, `first` and `next` answer, and what they write, for any four numbers and any bytes.
+-- "Patterns: 12, 13, 14 over the whole pattern, 15."
+use Prim.Native.Nat.{ℕ}
+use mathlib.Core.Bool.{Bool, true, false, cond}
+use mathlib.Core.List.{List}
+use mathlib.Core.Option.{Option, none, some}
+use lib.IntN.{ℤ}
+use lib.ListN.{length}
+use lib.Dec.{ltb}
+use Rattle.reply.specs.Numbers.{noEnvelope, longPattern, notABit, outside}
+use Rattle.envelope.specs.declared.Envelope.{Envelope}
+use Rattle.envelope.specs.declared.Standing.{Standing}
+use Rattle.envelope.specs.declared.Standing.the-variants.{Fine, BeyondLower, BeyondUpper, BeyondL, BeyondN, NoRoom, CommonFactor}
+use Rattle.envelope.specs.Standing.{standingOf}
+use Rattle.pattern.specs.declared.Answer.{Answer}
+use Rattle.pattern.specs.declared.Answer.the-variants.{Inside, Done, Last, Refused}
+use Rattle.pattern.specs.Step.{oneMay, zeroMay}
+use Rattle.pattern.specs.Pattern.{longest, plain, passed, fill, next}
+
+-- the number and the place of a refusal, 0 and 0 where there is none
+abbrev pub numberOf : Answer → ℕ
+numberOf Inside = 0
+numberOf Done = 0
+numberOf Last = 0
+numberOf (Refused number place) = number
+
+abbrev pub placeOf : Answer → ℕ
+placeOf Inside = 0
+placeOf Done = 0
+placeOf Last = 0
+placeOf (Refused number place) = place
+
+-- four numbers as they come
+abbrev pub given : ℤ → ℤ → ℕ → ℕ → Envelope
+given k K l n = record { k = k; K = K; l = l; n = n }
+
+abbrev pub isFine : Standing → Bool
+isFine Fine = true
+isFine BeyondLower = false
+isFine BeyondUpper = false
+isFine BeyondL = false
+isFine BeyondN = false
+isFine NoRoom = false
+isFine CommonFactor = false
+
+-- "four numbers that are no taken, normal envelope", then "pattern longer than 4,096", both at 0; else a
+abbrev pub admitted : Envelope → List ℕ → Answer → Answer
+admitted e p a =
+    cond (isFine (standingOf e))
+    (cond (ltb longest (length p)) (Refused longPattern 0) a)
+    (Refused noEnvelope 0)
+
+-- how many steps of a pattern may be taken before the first forbidden one
+abbrev pub stepsOf : Envelope → List ℕ → ℕ
+stepsOf e p = passed (zeroMay e) (oneMay e) 0 0 p
+
+-- "Check answers inside, or 12 to 15": 14 at the first byte that is not 0 or 1, 15 at the first forbidden step
+unfoldable pub checkAnswer : Envelope → List ℕ → Answer
+checkAnswer e p =
+    admitted e p
+    (cond (ltb (plain p) (length p)) (Refused notABit (plain p))
+    (cond (ltb (stepsOf e p) (length p)) (Refused outside (stepsOf e p))
+    Inside))
+
+-- "First fills the lent slice"
+unfoldable pub firstAnswer : Envelope → List ℕ → Answer
+firstAnswer e p = admitted e p Done
+
+-- "Next turns a pattern into its successor, or answers last"
+abbrev pub nextOf : Envelope → List ℕ → Option (List ℕ)
+nextOf e p = next (zeroMay e) (oneMay e) 0 0 p
+
+abbrev pub doneOrLast : Option (List ℕ) → Answer
+doneOrLast (some q) = Done
+doneOrLast none = Last
+
+-- of a pattern that is inside, a; else the refusal
+abbrev pub ifInside : Answer → Answer → Answer
+ifInside Inside a = a
+ifInside Done a = Done
+ifInside Last a = Last
+ifInside (Refused number place) a = Refused number place
+
+unfoldable pub nextAnswer : Envelope → List ℕ → Answer
+nextAnswer e p = ifInside (checkAnswer e p) (doneOrLast (nextOf e p))
+
+-- the slice after an answer: q where that is "done"; "last" and a refusal write nothing
+abbrev pub written : Answer → List ℕ → List ℕ → List ℕ
+written Inside q p = p
+written Done q p = q
+written Last q p = p
+written (Refused number place) q p = p
+
+unfoldable pub firstBytes : Envelope → List ℕ → List ℕ
+firstBytes e p = written (firstAnswer e p) (fill (zeroMay e) (oneMay e) 0 0 (length p)) p
+
+abbrev pub orElse : Option (List ℕ) → List ℕ → List ℕ
+orElse (some q) p = q
+orElse none p = p
+
+unfoldable pub nextBytes : Envelope → List ℕ → List ℕ
+nextBytes e p = written (nextAnswer e p) (orElse (nextOf e p) p) p

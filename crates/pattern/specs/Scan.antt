@@ -1,0 +1,77 @@
+-- What the code's loops find. They carry n*i - l*j along as one number, the offset d of a place.
+use Prim.Native.Nat.{ℕ, zero, suc, _*_}
+use mathlib.Core.Bool.{Bool, cond, _&&_}
+use mathlib.Core.List.{List, [], _∷_}
+use lib.IntN.{ℤ, pos, negℤ, _+ℤ_, _-ℤ_}
+use lib.Signed.{leZ, _≤ℤ_}
+use lib.ListN.{length}
+use lib.Dec.{ltb}
+use Rattle.reply.specs.Numbers.{noEnvelope, longPattern, notABit, outside}
+use Rattle.envelope.specs.declared.Envelope.{Envelope}
+use Rattle.envelope.specs.Limits.{lMost}
+use Rattle.envelope.specs.Standing.{standingOf}
+use Rattle.pattern.specs.declared.Mark.{Mark}
+use Rattle.pattern.specs.declared.Judged.{Judged}
+use Rattle.pattern.specs.declared.Judged.the-variants.{Sound, Unsound}
+use Rattle.pattern.specs.Pattern.{longest, plain}
+use Rattle.pattern.specs.Answer.{isFine}
+
+-- an offset after i bits is this near to 0
+pub record Near (i : ℕ) (d : ℤ) : Type 0 where
+  pub not-below : negℤ (pos (lMost * i)) ≤ℤ d
+  pub not-above : d ≤ℤ pos (lMost * i)
+
+-- a 1 may follow
+unfoldable pub oneAt : Envelope → ℤ → Bool
+oneAt e d = leZ (e .k) d && leZ d (e .K)
+
+-- a 0 may follow
+unfoldable pub zeroAt : Envelope → ℤ → Bool
+zeroAt e d = leZ (d +ℤ pos (e .n)) (e .K)
+
+-- the bit b may follow, where it is one
+abbrev pub mayAt : Envelope → ℤ → ℕ → Bool
+mayAt e d zero = zeroAt e d
+mayAt e d (suc b) = oneAt e d
+
+-- the offset after the bit b
+abbrev pub onward : Envelope → ℤ → ℕ → ℤ
+onward e d zero = d +ℤ pos (e .n)
+onward e d (suc b) = d +ℤ pos (e .n) -ℤ pos (e .l)
+
+-- the smaller bit that may follow, where one may
+abbrev pub leastAt : Envelope → ℤ → ℕ
+leastAt e d = cond (zeroAt e d) 0 1
+
+-- m bits, each the smaller that may follow
+abbrev pub filled : Envelope → ℤ → ℕ → List ℕ
+filled e d zero = []
+filled e d (suc m) = leastAt e d ∷ filled e (onward e d (leastAt e d)) m
+
+-- the last 0 that could be a 1: its place, plus one, and the offset there; with the bit b at i
+abbrev pub marked : Envelope → ℕ → ℤ → Mark → ℕ → Mark
+marked e i d m zero = cond (oneAt e d) (record { place = suc i; offset = d }) m
+marked e i d m (suc b) = m
+
+abbrev pub unmarked : Mark
+unmarked = record { place = 0; offset = pos 0 }
+
+-- from place i on: the first forbidden step, or the last mark
+abbrev pub scanned : Envelope → ℕ → ℤ → Mark → List ℕ → Judged
+scanned e i d m [] = Sound m
+scanned e i d m (b ∷ p) =
+    cond (mayAt e d b) (scanned e (suc i) (onward e d b) (marked e i d m b) p) (Unsound outside i)
+
+-- the largest of m and of some bytes
+abbrev pub largestFrom : ℕ → List ℕ → ℕ
+largestFrom m [] = m
+largestFrom m (b ∷ p) = largestFrom (cond (ltb m b) b m) p
+
+-- 12 to 15, or the last mark
+unfoldable pub judged : Envelope → List ℕ → Judged
+judged e p =
+    cond (isFine (standingOf e))
+    (cond (ltb longest (length p)) (Unsound longPattern 0)
+    (cond (ltb (plain p) (length p)) (Unsound notABit (plain p))
+    (scanned e 0 (pos 0) unmarked p)))
+    (Unsound noEnvelope 0)
