@@ -1,0 +1,127 @@
+-- The promises on texts are kept. Assumes nothing.
+use mathlib.Core.Path.{_≡_, refl, sym, ap, _∙_}
+use mathlib.Core.List.{List, [], _∷_, _++_, append-nil, append-assoc}
+use Prim.Native.Nat.{ℕ, zero, suc, _+_, _-_, _*_, _/_, _%_, _≤_, _<_}
+use native.Mathlib.Omega.{arith}
+use lib.IntN.{ℤ, pos, negsuc}
+use lib.ListN.{length, getD, take, drop, length-append, List·getD-append}
+use lib.Seq.{append-snoc, sets, sets-eq, take-at, drop-at, take-append-seam, length-take-le}
+use Rattle.line.specs.Text.{Put, figure, minus, digits, decimal}
+use Rattle.line.specs.Promise.{Figures, Figures.none, Figures.one, readOn, valueOf, NumbersPromise, Stands, TextPromise}
+use Rattle.line.proofs.Puts.{puts, put-length}
+use Rattle.line.proofs.Digits.{by-tens, digits-few, digits-more, length-few, length-some}
+
+-- ---- the digits of a number are a numeral
+figures-then : {t : List ℕ} {d : ℕ} → figure 0 ≤ d → d ≤ figure 9 → Figures t → Figures (t ++ (d ∷ []))
+figures-then h k none = one h k none
+figures-then h k (one i j f) = one i j (figures-then h k f)
+
+figures : (n : ℕ) → Figures (digits n)
+figures =
+    by-tens (λ n. Figures (digits n))
+    (λ n h. rw (digits-few n h) (one {d = figure n} (omega arith) (omega arith) none))
+    (λ n h f. rw (digits-more n h) (figures-then {d = figure (n % 10)} (omega arith) (omega arith) f))
+
+first : (n : ℕ) → 0 < n → figure 0 < getD (digits n) 0 0
+first =
+    by-tens (λ n. 0 < n → figure 0 < getD (digits n) 0 0)
+    (λ n h p. rw (digits-few n h) (omega arith))
+    (λ n h f p. rw (digits-more n h, List·getD-append (digits (n / 10)) (figure (n % 10) ∷ []) 0 0 (length-some (n / 10))) (f (omega arith)))
+
+long : (n : ℕ) → 1 < length (digits n) → 0 < n
+long zero h = absurd (omega (arith, length-few 0 (omega arith)))
+long (suc n) h = omega arith
+
+-- ---- and read back they are the number
+readOn-then : (v : ℕ) (t u : List ℕ) → readOn v (t ++ u) ≡ readOn (readOn v t) u
+unfolding readOn
+readOn-then v [] u = refl
+readOn-then v (d ∷ t) u = readOn-then (v * 10 + (d - figure 0)) t u
+
+value : (n : ℕ) → valueOf (digits n) ≡ n
+unfolding readOn
+value =
+    by-tens (λ n. valueOf (digits n) ≡ n)
+    (λ n h. rw (digits-few n h) (omega arith))
+    (λ n h e. rw (digits-more n h, readOn-then 0 (digits (n / 10)) (figure (n % 10) ∷ []), e) (omega arith))
+
+-- ---- no other numeral is
+on-from : (v : ℕ) (t : List ℕ) → 0 < v → Figures t → digits (readOn v t) ≡ digits v ++ t
+unfolding readOn
+on-from v [] h f = sym (append-nil (digits v))
+on-from v (d ∷ t) h (one i j f) =
+    let w = v * 10 + (d - figure 0) in
+    let tenth : w / 10 ≡ v = omega arith in
+    let last : figure (w % 10) ≡ d = omega arith in
+    let here : digits w ≡ digits v ++ (d ∷ []) = digits-more w (omega arith) ∙ rw (tenth, last) in
+    on-from w t (omega arith) f ∙ ap (λ (l : List ℕ). l ++ t) here ∙ append-snoc (digits v) d t
+
+spelled : (t : List ℕ) → 0 < length t → Figures t → (1 < length t → figure 0 < getD t 0 0) → t ≡ digits (valueOf t)
+unfolding readOn
+spelled [] h f l = absurd (omega arith)
+spelled (d ∷ []) h (one i j f) l =
+    let v : figure (0 * 10 + (d - figure 0)) ≡ d = omega arith in
+    sym (digits-few (0 * 10 + (d - figure 0)) (omega arith) ∙ rw v)
+spelled (d ∷ e ∷ t) h (one i j f) l =
+    let v : figure (0 * 10 + (d - figure 0)) ≡ d = omega arith in
+    let k : figure 0 < d = l (omega arith) in
+    sym (on-from (0 * 10 + (d - figure 0)) (e ∷ t) (omega arith) f ∙ rw (digits-few (0 * 10 + (d - figure 0)) (omega arith), v))
+
+-- ---- so two numbers with the same text are equal
+same-digits : (m n : ℕ) → digits m ≡ digits n → m ≡ n
+same-digits m n e = sym (value m) ∙ ap valueOf e ∙ value n
+
+-- no figure is a minus sign
+not-minus : (n m : ℕ) → digits n ≡ minus ∷ digits m → ⊥
+not-minus n m e = go (digits n) (figures n) e
+  where
+    go : (t : List ℕ) → Figures t → t ≡ minus ∷ digits m → ⊥
+    go [] f e = let w : _≡_ {A = ℕ} 0 1 = cc in omega arith
+    go (d ∷ t) (one i j f) e = let w : d ≡ minus = cc in omega arith
+
+same-decimal : (x y : ℤ) → decimal x ≡ decimal y → x ≡ y
+unfolding decimal
+same-decimal (pos m) (pos n) e = ap pos (same-digits m n e)
+same-decimal (pos m) (negsuc n) e = absurd (not-minus m (suc n) e)
+same-decimal (negsuc m) (pos n) e = absurd (not-minus n (suc m) (sym e))
+same-decimal (negsuc m) (negsuc n) e = cc (same-digits (suc m) (suc n) (cc))
+
+pub numbers-promise : NumbersPromise
+numbers-promise =
+    record {
+      numeral = λ n. record { some = length-some n; figures = figures n; first = λ h. first n (long n h) };
+      value = value;
+      spelled = λ t s. spelled t (s .some) (s .figures) (s .first);
+      same-digits = same-digits;
+      same-decimal = same-decimal;
+    }
+
+-- ---- a text that is put
+module _ (xs : List ℕ) (a : ℕ) (t : List ℕ) (h : a + length t ≤ length xs) where
+  -- what stands before the text has its length
+  start : length (take a xs) ≡ a
+  start = length-take-le a xs (omega arith)
+
+  parts : sets xs a t ≡ take a xs ++ (t ++ drop (a + length t) xs)
+  parts = sets-eq t xs a h ∙ append-assoc (take a xs) t (drop (a + length t) xs)
+
+  stands : (ys : List ℕ) (r : ℕ) → Put xs a t ys r → Stands xs a t ys r
+  stands ys r p =
+      let rest = drop (a + length t) xs in
+      record {
+        before = ap (take a) (p .bytes ∙ parts) ∙ take-at (take a xs) (t ++ rest) a start;
+        text = ap (λ (l : List ℕ). take (length t) (drop a l)) (p .bytes ∙ parts) ∙ ap (take (length t)) (drop-at (take a xs) (t ++ rest) a start) ∙ take-append-seam t rest;
+        after =
+            ap (λ (k : ℕ). drop k ys) (p .past) ∙ ap (drop (a + length t)) (p .bytes ∙ sets-eq t xs a h)
+            ∙ drop-at (take a xs ++ t) rest (a + length t) (length-append (take a xs) t ∙ ap (λ (k : ℕ). k + length t) start)
+            ∙ ap (λ (k : ℕ). drop k xs) (sym (p .past));
+        same-length = put-length p;
+      }
+
+pub text-promise : TextPromise
+text-promise =
+    record {
+      stands = λ xs a t ys r h p. stands xs a t h ys r p;
+      puts = puts;
+      one-answer = λ p q. (p .bytes ∙ sym (q .bytes), p .past ∙ sym (q .past));
+    }

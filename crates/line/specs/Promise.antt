@@ -1,0 +1,51 @@
+-- What is proved of the text: numbers are spelled in decimal and in no second way, and a text that is put changes nothing else.
+use mathlib.Core.Path.{_≡_}
+use mathlib.Core.List.{List, [], _∷_, _++_}
+use Prim.Native.Nat.{ℕ, _+_, _-_, _*_, _≤_, _<_}
+use lib.IntN.{ℤ}
+use lib.ListN.{length, getD, take, drop}
+use Rattle.line.specs.Text.{Put, figure, digits, decimal}
+
+-- every byte is a figure, "0" to "9"
+pub data Figures : List ℕ → Type 0 where
+  none : Figures []
+  one : {d : ℕ} {t : List ℕ} → figure 0 ≤ d → d ≤ figure 9 → Figures t → Figures (d ∷ t)
+
+-- the number that figures spell, read from the first on, where those before them spell v
+unfoldable pub readOn : ℕ → List ℕ → ℕ
+readOn v [] = v
+readOn v (d ∷ t) = readOn (v * 10 + (d - figure 0)) t
+
+abbrev pub valueOf : List ℕ → ℕ
+valueOf t = readOn 0 t
+
+-- a decimal number as it is to be written: figures, one at least, and "0" first only where it stands alone
+pub record Numeral (t : List ℕ) : Type 0 where
+  pub some : 0 < length t
+  pub figures : Figures t
+  pub first : 1 < length t → figure 0 < getD t 0 0
+
+pub record NumbersPromise : Type 0 where
+  -- the digits of a number are a numeral, and read back they are the number
+  pub numeral : (n : ℕ) → Numeral (digits n)
+  pub value : (n : ℕ) → valueOf (digits n) ≡ n
+  -- no other numeral is read as that number
+  pub spelled : (t : List ℕ) → Numeral t → t ≡ digits (valueOf t)
+  -- so two numbers with the same text are equal, whatever their signs
+  pub same-digits : (m n : ℕ) → digits m ≡ digits n → m ≡ n
+  pub same-decimal : (x y : ℤ) → decimal x ≡ decimal y → x ≡ y
+
+-- a text stands at its place, and all before and after it is as it was
+pub record Stands (xs : List ℕ) (a : ℕ) (t : List ℕ) (ys : List ℕ) (r : ℕ) : Type 0 where
+  pub before : take a ys ≡ take a xs
+  pub text : take (length t) (drop a ys) ≡ t
+  pub after : drop r ys ≡ drop r xs
+  pub same-length : length ys ≡ length xs
+
+pub record TextPromise : Type 0 where
+  -- a text that is put where it fits stands there
+  pub stands : (xs : List ℕ) (a : ℕ) (t ys : List ℕ) (r : ℕ) → a + length t ≤ length xs → Put xs a t ys r → Stands xs a t ys r
+  -- one text after another is the two as one
+  pub puts : {xs ys zs t u : List ℕ} {a b c : ℕ} → Put xs a t ys b → Put ys b u zs c → Put xs a (t ++ u) zs c
+  -- a contract that says which text is put decides the buffer and the place
+  pub one-answer : {xs ys zs t : List ℕ} {a b c : ℕ} → Put xs a t ys b → Put xs a t zs c → (ys ≡ zs) × (b ≡ c)
