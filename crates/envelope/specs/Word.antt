@@ -53,8 +53,12 @@ wordOf u v =
     let n : ℕ = onesIn v / g in
     resultOf (smallest (wordOffsets u v l n)) (largest (wordOffsets u v l n)) l n
 
+-- the most bits of a prefix, and of a period
+abbrev pub bitsMost : ℕ
+bitsMost = 64
+
 -- "prefix length u8 (0 to 64), period length u8 (1 to 64)", and a 1 in the period
 pub record LegalWord (u v : List ℕ) : Type 0 where
-  pub prefix-most : length u ≤ 64
-  pub period-most : length v ≤ 64
+  pub prefix-most : length u ≤ bitsMost
+  pub period-most : length v ≤ bitsMost
   pub a-one : 1 ≤ onesIn v

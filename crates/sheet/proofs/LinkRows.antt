@@ -1,0 +1,134 @@
+-- Links between clocks, as rows and as the code reads them: their ends are there, their sizes are small.
+-- Assumes nothing.
+use mathlib.Core.Path.{_≡_, refl, sym, ap, ap₂, _∙_, subst}
+use mathlib.Core.Bool.{Bool, true, false, cond}
+use mathlib.Core.List.{List, []}
+use mathlib.Core.Option.{Option, none, some}
+use Prim.Native.Nat.{ℕ, _+_, _-_, _*_, _≤_, _<_}
+use native.Mathlib.Omega.{arith}
+use lib.IntN.{ℤ, pos, negsuc, natAbs, _-ℤ_, _*ℤ_}
+use lib.Signed.{_≤ℤ_}
+use lib.Dec.{eqb}
+use lib.ListN.{length, getD, getElem?}
+use Rattle.reply.specs.Numbers.{beyond, absent}
+use Rattle.whole.specs.Rounding.{ceilDiv}
+use Rattle.whole.proofs.Bridge.{up, orders, up-mul, down-mul, up-diff-le}
+use Rattle.whole.proofs.Rounding.{ceil-least}
+use Rattle.field.specs.Read.{Read, Read.got, Read.refused}
+use Rattle.field.specs.Field.{fieldIn}
+use Rattle.field.proofs.Read.{through}
+use Rattle.field.proofs.Fields.{field-there}
+use Rattle.envelope.specs.declared.Envelope.{Envelope}
+use Rattle.envelope.specs.declared.Node.{Node}
+use Rattle.envelope.specs.Envelope.{Taken}
+use Rattle.envelope.proofs.Held.{K-up, k-down}
+use Rattle.link.specs.declared.Verdict.{Verdict}
+use Rattle.link.specs.declared.Verdict.the-variants.{Accepted, Rates, Early}
+use Rattle.link.specs.declared.Row.{Row}
+use Rattle.link.specs.Link.{sizeOf, verdictOf, numberOf, sizeIn, stateOf, openSizeOf, Passes}
+use Rattle.link.proofs.Links.{size-least, accepted-is}
+use Rattle.expression.specs.Reader.{mapped}
+use Rattle.expression.specs.Table.{nodesIn, nodeAt, AllTaken, Holds}
+use Rattle.expression.proofs.Tables.{node-at}
+use Rattle.sheet.specs.Sheet.{Link, linksMost}
+use Rattle.sheet.specs.Reader.{rowsAt, sectionAt, linkAt}
+use Rattle.sheet.specs.Rooms.{verdictBetween, verdictIn, sizeOfRow}
+use Rattle.sheet.specs.Sections.{rowAt}
+use Rattle.sheet.proofs.Readings.{Reached, reached-all, section-none, section-rows}
+
+-- ---- a link that was read
+
+-- which links come before it doesn't matter
+pub link-anywhere : (s : List ℕ) (m : ℕ) (xs : List Link) (a : ℕ) (r : Read Link) → linkAt s m [] a ≡ r → linkAt s m xs a ≡ r
+unfolding linkAt
+link-anywhere s m xs a r e = e
+
+-- its ends are among the m clocks
+pub ends-there : (s : List ℕ) (m : ℕ) (xs : List Link) (a : ℕ) (l : Link) (c : ℕ) → linkAt s m xs a ≡ got l c → (l .producer < m) × (l .consumer < m)
+unfolding linkAt
+ends-there s m xs a l c h =
+    let r = through (fieldIn 2 0 m absent s a) _ l c h in
+    let q = through (fieldIn 2 0 m absent s (r .1)) _ l c (r .3) in
+    let e : _≡_ {A = Link} (record { producer = r .0; consumer = q .0 }) l = cc (q .3) in
+    let p₁ : r .0 ≡ l .producer = ap (λ (x : Link). x .producer) e in
+    let p₂ : q .0 ≡ l .consumer = ap (λ (x : Link). x .consumer) e in
+    (omega (arith, field-there 2 0 m absent s a (r .0) (r .1) (r .2) .most, p₁), omega (arith, field-there 2 0 m absent s (r .1) (q .0) (q .1) (q .2) .most, p₂))
+
+-- ---- the section, by its count
+module _ (s : List ℕ) (m a : ℕ) where
+  pub links-none : (number place : ℕ) → fieldIn 2 0 (linksMost + 1) beyond s a ≡ refused number place → mapped length (sectionAt (linkAt s m) linksMost s a) ≡ refused number place
+  links-none number place count = rw (section-none (linkAt s m) linksMost s a number place count)
+
+  module _ (n c : ℕ) (count : fieldIn 2 0 (linksMost + 1) beyond s a ≡ got n c) where
+    pub links-refused : (number place : ℕ) → rowsAt (linkAt s m) n [] c ≡ refused number place → mapped length (sectionAt (linkAt s m) linksMost s a) ≡ refused number place
+    links-refused number place e = rw (section-rows (linkAt s m) linksMost s a n c count, e)
+
+    pub links-got : (i b : ℕ) → i ≡ n → Reached (linkAt s m) n i c b → mapped length (sectionAt (linkAt s m) linksMost s a) ≡ got n b
+    links-got i b e h = rw (section-rows (linkAt s m) linksMost s a n c count, reached-all (linkAt s m) n i c b h e) (ap (λ (x : ℕ). got x b) (h .many ∙ e))
+
+-- ---- sizes are small
+size-small : (e f : Envelope) → Taken e → Taken f → Passes e f → natAbs (sizeOf e f) ≤ 3000000000
+unfolding sizeOf
+size-small e f s t p =
+    let d : ℤ = f .K -ℤ pos (e .n - 1) in
+    let x : ℤ = d -ℤ e .k in
+    let xu : up x ≤ 3000000000 = omega (arith, up-diff-le d (e .k), up-diff-le (f .K) (pos (e .n - 1)), K-up f (t .limits), k-down e (s .limits)) in
+    let l : 0 < e .l = omega (arith, s .n-least, s .n-most) in
+    let high : ceilDiv x (e .l) ≤ℤ pos 3000000000 = ceil-least x (pos 3000000000) (e .l) l (wide x (e .l) l xu) in
+    small (ceilDiv x (e .l)) (size-least e f s t p) high
+  where
+    wide : (x : ℤ) (l : ℕ) → 0 < l → up x ≤ 3000000000 → x ≤ℤ (pos 3000000000 *ℤ pos l)
+    wide x l h k = omega (arith, orders, up-mul (pos 3000000000) l, down-mul (pos 3000000000) l)
+
+    small : (z : ℤ) → pos 0 ≤ℤ z → z ≤ℤ pos 3000000000 → natAbs z ≤ 3000000000
+    small (pos n) p q = omega (arith, orders)
+    small (negsuc n) p q = absurd (omega (arith, orders))
+
+verdict-small : (e f : Envelope) → Taken e → Taken f → sizeIn (verdictOf e f) ≤ 3000000000
+verdict-small e f s t = go (verdictOf e f) refl
+  where
+    go : (v : Verdict) → verdictOf e f ≡ v → sizeIn v ≤ 3000000000
+    go (Accepted n) h =
+        let r = accepted-is e f n h in
+        omega (arith, r .1, size-small e f s t (r .0))
+    go Rates h = omega arith
+    go Early h = omega arith
+
+pub row-small : (xs : List Node) → AllTaken xs → (l : Link) → sizeIn (verdictIn xs l) ≤ 3000000000
+row-small xs t l = go (getElem? xs (l .producer)) refl (getElem? xs (l .consumer)) refl
+  where
+    go : (p : Option Node) → getElem? xs (l .producer) ≡ p → (q : Option Node) → getElem? xs (l .consumer) ≡ q → sizeIn (verdictBetween p q) ≤ 3000000000
+    go none e q f = omega arith
+    go (some x) e none f = omega arith
+    go (some x) e (some y) f = verdict-small (x .envelope) (y .envelope) (t (l .producer) x e) (t (l .consumer) y f)
+
+-- an open link adds no more than its size
+pub open-most : (r : Row) → openSizeOf r ≤ sizeOfRow r
+open-most r = go (eqb (r .state) 1)
+  where
+    go : (t : Bool) → cond t 0 (sizeIn (r .verdict)) ≤ sizeIn (r .verdict)
+    go true = omega arith
+    go false = omega arith
+
+pub number-small : (v : Verdict) → numberOf v ≤ 2
+number-small (Accepted n) = omega arith
+number-small Rates = omega arith
+number-small Early = omega arith
+
+-- ---- a row, from the entries of the table
+pub entry-taken : (t : List ℤ) (i : ℕ) (x : Node) → Holds t → 4 * i + 3 < length t → x ≡ nodeAt t i → Taken (x .envelope)
+entry-taken t i x h l p = subst (λ (y : Node). Taken (y .envelope)) (sym p) (h .taken i (nodeAt t i) (node-at t i l))
+
+pub row-is :
+    (t : List ℤ) (ss : List ℕ) (i j : ℕ) (x y : Node) (v : Verdict) (state : ℕ) →
+    4 * i + 3 < length t →
+    4 * j + 3 < length t →
+    x ≡ nodeAt t i →
+    y ≡ nodeAt t j →
+    v ≡ verdictOf (x .envelope) (y .envelope) →
+    state ≡ stateOf (getD ss i 0) (getD ss j 0) →
+    _≡_ {A = Row} (record { producer = i; consumer = j; state = state; verdict = v }) (rowAt (nodesIn t) ss i j)
+row-is t ss i j x y v state hi hj p q r e =
+    let w : v ≡ verdictBetween (getElem? (nodesIn t) i) (getElem? (nodesIn t) j) =
+    r ∙ ap₂ (λ (x y : Node). verdictOf (x .envelope) (y .envelope)) p q ∙ sym (ap₂ verdictBetween (node-at t i hi) (node-at t j hj)) in
+    λ k. record { producer = i; consumer = j; state = e k; verdict = w k }

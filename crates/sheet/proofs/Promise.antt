@@ -1,0 +1,44 @@
+-- The promises on sheets are kept. Assumes nothing.
+use mathlib.Core.Path.{sym, ap, _∙_}
+use mathlib.Core.List.{List}
+use Prim.Native.Nat.{ℕ}
+use lib.ListN.{length}
+use Rattle.field.specs.Read.{Read.got}
+use Rattle.field.specs.Spelling.{AllBytes}
+use Rattle.sheet.specs.Reader.{readSheet}
+use Rattle.sheet.specs.Promise.{Tie, Served, Refusals, NoSecondReply}
+use Rattle.sheet.proofs.Sheets.{Opens, sheet-reads, sheet-read, one-sheet}
+use Rattle.sheet.proofs.Served.{meant, link-serves}
+use Rattle.sheet.proofs.Faults.{too-long, within, first-fault, bytes-after, by-rules, cut-short, sheet-first, short-slice}
+
+pub tie : (s : List ℕ) → AllBytes s → Tie s
+tie s bytes =
+    record {
+      accepted-is-spelled = λ o c h. let p : Opens s o c = sheet-reads s bytes o c h in (p .legal, p .worked, p .bytes, p .end);
+      spelled-is-accepted = λ v xs l w e. ap readSheet e ∙ sheet-read v xs l w ∙ ap (λ (t : List ℕ). got (record { sheet = v; table = xs }) (length t)) (sym e);
+      one-sheet = one-sheet;
+    }
+
+pub served : (s : List ℕ) → AllBytes s → Served s
+served s bytes =
+    record {
+      serves = link-serves s bytes;
+      some-stream = λ o c h. meant s bytes o c h .clock-some;
+      taken = λ o c h. meant s bytes o c h .clock-taken;
+    }
+
+pub refusals : (s : List ℕ) → AllBytes s → Refusals s
+refusals s bytes =
+    record {
+      too-long = too-long s;
+      bytes-after = bytes-after s;
+      by-rules = by-rules s;
+      cut-short = cut-short s bytes;
+      first-fault = first-fault s;
+      within = within s;
+      sheet-first = sheet-first s;
+      short-slice = short-slice s;
+    }
+
+pub no-second-reply : NoSecondReply
+no-second-reply s clocks links r q cs cs′ ls ls′ a b = (a .reply-is ∙ sym (b .reply-is), a .clocks-are ∙ sym (b .clocks-are), a .links-are ∙ sym (b .links-are))

@@ -1,0 +1,107 @@
+-- What is proved of sheets, one field for each promise: of a text s of bytes.
+use mathlib.Core.Path.{_≡_}
+use mathlib.Core.Logic.{_⊎_, _≢_}
+use mathlib.Core.List.{List, _∷_, _++_}
+use mathlib.Core.Option.{some}
+use Prim.Native.Nat.{ℕ, _+_, _*_, _≤_, _<_}
+use lib.IntN.{ℤ}
+use lib.ListN.{length, getElem?}
+use Rattle.reply.specs.Numbers.{missing, beyond, trailing, shortResult}
+use Rattle.field.specs.Read.{Read.got, Read.refused}
+use Rattle.field.specs.Spelling.{bytesOf}
+use Rattle.envelope.specs.declared.Node.{Node}
+use Rattle.envelope.specs.Stream.{Stream, Lies}
+use Rattle.link.specs.declared.Verdict.the-variants.{Accepted}
+use Rattle.link.specs.Promise.{Serves}
+use Rattle.expression.specs.Expression.{Word, Expr, Clock, spellWord, spellClock}
+use Rattle.expression.specs.Stands.{Stands}
+use Rattle.expression.specs.Evaluate.{Worth.fault, evaluate, wordNodes, Worked}
+use Rattle.expression.specs.Table.{AllTaken}
+use Rattle.expression.specs.Spelled.{InRange}
+use Rattle.expression.specs.Blame.{blame}
+use Rattle.sheet.specs.declared.Reply.{Reply}
+use Rattle.sheet.specs.Sheet.{Link, Sheet, wordsMost, clocksMost, bytesMost, rows, section, spellSheet, Every, WordRow, ClockRow, Legal}
+use Rattle.sheet.specs.Reader.{Opened, readSheet}
+use Rattle.sheet.specs.Rooms.{verdictIn}
+use Rattle.sheet.specs.WorkOut.{workedOf, replyOf, clocksOut, linksOut}
+
+-- bytes and values are tied
+pub record Tie (s : List ℕ) : Type 0 where
+  -- what is accepted is a legal sheet with the table that the rules give it, and its spelling is the text, all of it
+  pub accepted-is-spelled : (o : Opened) (c : ℕ) → readSheet s ≡ got o c
+      → Legal (o .sheet) × Worked (o .sheet .words) (o .sheet .clocks) (o .table) × (s ≡ spellSheet (o .sheet)) × (c ≡ length s)
+  -- every legal sheet that the rules give a table is accepted, with that table
+  pub spelled-is-accepted : (v : Sheet) (xs : List Node) → Legal v → Worked (v .words) (v .clocks) xs → s ≡ spellSheet v
+      → readSheet s ≡ got (record { sheet = v; table = xs }) (length s)
+  -- no two of them are spelled the same
+  pub one-sheet : (v u : Sheet) (xs ys : List Node) → Legal v → Legal u → Worked (v .words) (v .clocks) xs → Worked (u .words) (u .clocks) ys → spellSheet v ≡ spellSheet u
+      → (v ≡ u) × (xs ≡ ys)
+
+-- "whichever streams the two clocks can stand for, or any others inside their envelopes": a is one that clock i can stand for, or lies in its envelope
+abbrev pub StreamOf : Opened → ℕ → Stream → Type 0
+StreamOf o i a = Stands (o .sheet .words) (o .sheet .clocks) (Expr.clock i) a ⊎ ((x : Node) × (getElem? (o .table) i ≡ some x) × Lies a (x .envelope))
+
+-- what an accepted sheet's links keep to
+pub record Served (s : List ℕ) : Type 0 where
+  -- for every accepted link, after any number of instants, reads never exceed writes, and writes minus reads never exceed the size given
+  pub serves : (o : Opened) (c : ℕ) → readSheet s ≡ got o c → (m : ℕ) (l : Link) (size : ℕ)
+      → getElem? (o .sheet .links) m ≡ some l → verdictIn (o .table) l ≡ Accepted size
+      → (a b : Stream) → StreamOf o (l .producer) a → StreamOf o (l .consumer) b → Serves a b size
+  -- every clock can stand for some stream
+  pub some-stream : (o : Opened) (c : ℕ) → readSheet s ≡ got o c → (i : ℕ) → i < length (o .sheet .clocks)
+      → (a : Stream) × Stands (o .sheet .words) (o .sheet .clocks) (Expr.clock i) a
+  -- every envelope in the table is taken
+  pub taken : (o : Opened) (c : ℕ) → readSheet s ≡ got o c → AllTaken (o .table)
+
+-- a text that is right up to a clock k: the words, a count, the clocks before k with their nodes xs, then k, and any bytes
+pub record UpTo (s : List ℕ) (words : List Word) (clocks : List Clock) (xs : List Node) (k : Clock) : Type 0 where
+  pub short-enough : length s ≤ bytesMost
+  pub words-most : length words ≤ wordsMost
+  pub words-legal : Every WordRow words
+  pub count : ℕ
+  pub count-most : count ≤ clocksMost
+  pub more : length clocks < count
+  pub clocks-legal : Every ClockRow clocks
+  pub worked : Worked words clocks xs
+  pub clock-legal : ClockRow k
+  pub rest : List ℕ
+  pub text : s ≡ section spellWord words ++ (bytesOf 2 count ++ (rows spellClock clocks ++ (spellClock k ++ rest)))
+
+-- where the expression of the clock after those begins: past the words, the count, the clocks and a state
+abbrev pub exprPlace : List Word → List Clock → ℕ
+exprPlace words clocks = length (section spellWord words) + (2 + (length (rows spellClock clocks) + 1))
+
+-- which refusals are given, and where
+pub record Refusals (s : List ℕ) : Type 0 where
+  -- "sheet too long": 32,768
+  pub too-long : bytesMost < length s → readSheet s ≡ refused beyond bytesMost
+  -- "bytes after the last link": the first
+  pub bytes-after : (v : Sheet) (xs : List Node) (x : ℕ) (rest : List ℕ) → Legal v → Worked (v .words) (v .clocks) xs → s ≡ spellSheet v ++ (x ∷ rest) → length s ≤ bytesMost
+      → readSheet s ≡ refused trailing (length (spellSheet v))
+  -- a clock whose fields are in range and that the rules refuse, after clocks that they don't: their number, at the tag of the node to blame
+  pub by-rules : (words : List Word) (clocks : List Clock) (xs : List Node) (k : Clock) (number : ℕ) → UpTo s words clocks xs k
+      → InRange (length words) (length clocks) (k .expr) → evaluate (wordNodes words) xs (k .expr) ≡ fault number
+      → readSheet s ≡ refused number (exprPlace words clocks + blame (wordNodes words) xs (k .expr))
+  -- a sheet that is cut short: bytes are missing
+  pub cut-short : (v : Sheet) (xs : List Node) (x : ℕ) (rest : List ℕ) → Legal v → Worked (v .words) (v .clocks) xs → s ++ (x ∷ rest) ≡ spellSheet v
+      → (place : ℕ) × (readSheet s ≡ refused missing place)
+  -- "the sheet is read left to right and the first fault is given": whatever follows a fault, that fault is given
+  pub first-fault : (rest : List ℕ) (number place : ℕ) → readSheet s ≡ refused number place → number ≢ missing → length (s ++ rest) ≤ bytesMost
+      → readSheet (s ++ rest) ≡ refused number place
+  -- a place is one of the text, or its end
+  pub within : (number place : ℕ) → readSheet s ≡ refused number place → place ≤ length s
+  -- "11 comes after the whole sheet has passed"
+  pub sheet-first : (number place clocks links : ℕ) → readSheet s ≡ refused number place → workedOf s clocks links ≡ refused number place
+  pub short-slice : (o : Opened) (c clocks links : ℕ) → readSheet s ≡ got o c → (clocks < 4 * length (o .table)) ⊎ (links < 3 * length (o .sheet .links))
+      → workedOf s clocks links ≡ refused shortResult 0
+
+-- what working a sheet out promises: the reply, and what the two lent slices hold at the end
+pub record WorksOut (s : List ℕ) (clocks links : List ℤ) (reply : Reply) (clocks-end links-end : List ℤ) : Type 0 where
+  pub reply-is : reply ≡ replyOf (workedOf s (length clocks) (length links))
+  pub clocks-are : clocks-end ≡ clocksOut (workedOf s (length clocks) (length links)) clocks
+  pub links-are : links-end ≡ linksOut (workedOf s (length clocks) (length links)) links
+
+-- it decides every returned number and every lent element: no second reply satisfies it
+abbrev pub NoSecondReply : Type 0
+NoSecondReply = (s : List ℕ) (clocks links : List ℤ) (r q : Reply) (cs cs′ ls ls′ : List ℤ)
+    → WorksOut s clocks links r cs ls → WorksOut s clocks links q cs′ ls′ → (r ≡ q) × (cs ≡ cs′) × (ls ≡ ls′)

@@ -1,0 +1,56 @@
+-- Working a sheet out: the reply, and what the two lent slices hold at the end.
+use mathlib.Core.List.{List, [], _∷_, _++_}
+use Prim.Native.Nat.{ℕ, _*_}
+use lib.IntN.{ℤ, pos}
+use lib.Dec.{leb}
+use lib.ListN.{length, drop}
+use Rattle.reply.specs.Numbers.{shortResult}
+use Rattle.field.specs.Read.{Read, Read.got, Read.refused, bind, pick}
+use Rattle.link.specs.declared.Row.{Row}
+use Rattle.link.specs.Link.{numberOf, sizeIn}
+use Rattle.expression.specs.Table.{flats}
+use Rattle.sheet.specs.declared.Reply.{Reply}
+use Rattle.sheet.specs.Reader.{Opened, readSheet}
+use Rattle.sheet.specs.Rooms.{rowsOf, openRoom, wholeRoom}
+
+-- "11: a lent result slice is too short", "after the whole sheet has passed": so many numbers for the clocks, so many for the links
+unfoldable pub workedOf : List ℕ → ℕ → ℕ → Read Opened
+workedOf s clocks links =
+    bind (readSheet s) λ o c.
+    pick (leb (4 * length (o .table)) clocks)
+    (pick (leb (3 * length (o .sheet .links)) links) (got o c) (refused shortResult 0))
+    (refused shortResult 0)
+
+-- "A refusal returns number and place, every count and total 0"
+abbrev pub refusalOf : ℕ → ℕ → Reply
+refusalOf number place = record { number = number; place = place; clocks = 0; links = 0; opened = 0; whole = 0 }
+
+-- "returning both counts and both rooms"
+abbrev pub replyOf : Read Opened → Reply
+replyOf (got o c) =
+    record {
+      number = 0;
+      place = 0;
+      clocks = length (o .table);
+      links = length (o .sheet .links);
+      opened = openRoom o;
+      whole = wholeRoom o;
+    }
+replyOf (refused number place) = refusalOf number place
+
+-- "verdict (0 accepted, 1 rates, 2 early), size and state (0 open, 1 closed) per link"
+abbrev pub flatRow : Row → List ℤ
+flatRow r = pos (numberOf (r .verdict)) ∷ (pos (sizeIn (r .verdict)) ∷ (pos (r .state) ∷ []))
+
+unfoldable pub flatRows : List Row → List ℤ
+flatRows [] = []
+flatRows (r ∷ rs) = flatRow r ++ flatRows rs
+
+-- "fills k, K, l, n per clock in one lent slice"; "elements past those stay as found"; on a refusal "no lent memory is written"
+abbrev pub clocksOut : Read Opened → List ℤ → List ℤ
+clocksOut (got o c) t = flats (o .table) ++ drop (4 * length (o .table)) t
+clocksOut (refused number place) t = t
+
+abbrev pub linksOut : Read Opened → List ℤ → List ℤ
+linksOut (got o c) t = flatRows (rowsOf o) ++ drop (3 * length (o .sheet .links)) t
+linksOut (refused number place) t = t
