@@ -12,4 +12,3 @@ pub mod Beginnings
 pub mod Checks
 pub mod Successors
 pub mod Promises
-pub mod Figures

@@ -8,7 +8,6 @@ pub mod FirstFault
 pub mod Faults
 pub mod Served
 pub mod Promise
-pub mod Figures
 pub mod Readings
 pub mod BitCounts
 pub mod NodeTables

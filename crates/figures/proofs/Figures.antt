@@ -1,0 +1,26 @@
+-- Every figure of document 01 that is starred, and more, follows from the definitions by computing: one claim over one list.
+-- Assumes nothing.
+use mathlib.Core.Path.{_≡_, refl}
+use Rattle.whole.specs.Euclid.{euclid, gcdOf}
+use Rattle.field.specs.Field.{lowFirst, fieldAt, fieldIn, signed, signedAt, signedIn}
+use Rattle.envelope.specs.Stream.{ones}
+use Rattle.envelope.specs.Envelope.{resultOf, normalOf, notOf, onOf}
+use Rattle.envelope.specs.Word.{onesIn, wordBit, offsets, wordOf}
+use Rattle.envelope.specs.Standing.{hasRoom, beyondOf, restOf, standingOf}
+use Rattle.envelope.specs.Made.{declaredOf, limited, negatedOf, joinedOf}
+use Rattle.link.specs.Link.{sizeOf, earlyOf, verdictOf}
+use Rattle.expression.specs.Evaluate.{fieldsKept, declaredWorth}
+use Rattle.expression.specs.Reader.{node, exprAt}
+use Rattle.expression.specs.Table.{flats}
+use Rattle.sheet.specs.Reader.{rowsAt, sectionAt, bitsAt, wordAt, clockAt, linkAt, readFrom, readSheet}
+use Rattle.sheet.specs.Rooms.{total, openRoom, wholeRoom}
+use Rattle.sheet.specs.WorkOut.{workedOf, flatRows}
+use Rattle.sheet.specs.Figures.{nots}
+use Rattle.pattern.specs.Step.{low, high, oneMay, zeroMay}
+use Rattle.pattern.specs.Answer.{checkAnswer, firstAnswer, firstBytes, nextAnswer, nextBytes}
+use Rattle.pattern.specs.Walk.{walkFrom, walkOver}
+use Rattle.figures.specs.Figures.{figures, said}
+
+pub as-said : figures ≡ said
+unfolding euclid gcdOf lowFirst fieldAt fieldIn signed signedAt signedIn ones resultOf normalOf notOf onOf onesIn wordBit offsets wordOf hasRoom beyondOf restOf standingOf declaredOf limited negatedOf joinedOf sizeOf earlyOf verdictOf fieldsKept declaredWorth node exprAt flats rowsAt sectionAt bitsAt wordAt clockAt linkAt readFrom readSheet total openRoom wholeRoom workedOf flatRows nots low high oneMay zeroMay checkAnswer firstAnswer firstBytes nextAnswer nextBytes walkFrom walkOver
+as-said = refl

@@ -1,0 +1,31 @@
+-- "Figures to hold the work to. Starred ones are proved from the definitions, all together by one claim over one list."
+use mathlib.Core.List.{List, [], _∷_, _++_, map}
+use Prim.Native.Nat.{ℕ}
+use lib.IntN.{pos}
+use lib.ListN.{replicate}
+use Rattle.link.specs.Figures as links
+use Rattle.sheet.specs.Figures as sheets
+use Rattle.pattern.specs.Answer.{given}
+use Rattle.pattern.specs.Walk.{walkOver}
+
+-- an envelope, a node or a verdict; a sheet worked out; the patterns of a walk
+pub data Figure : Type 0 where
+  number : links.Figure → Figure
+  sheet : sheets.Answer → Figure
+  patterns : List (List ℕ) → Figure
+
+-- at most `most` patterns of 2 3 2 1 at a length, whatever the slice held
+abbrev pub walk2321 : ℕ → ℕ → Figure
+walk2321 most length = patterns (walkOver (given (pos 2) (pos 3) 2 1) most (replicate length 7))
+
+-- what the definitions give
+abbrev pub figures : List Figure
+figures = map number links.given ++ (map sheet sheets.given ++ (walk2321 9 5 ∷ (walk2321 9 2 ∷ [])))
+
+-- what document 01 says: "2 3 2 1 at length 5: 00010, 00011, 00100, 00101. At length 2: 00."
+abbrev pub said : List Figure
+said =
+    map number links.said
+    ++ (map sheet sheets.said
+    ++ (patterns ((0 ∷ 0 ∷ 0 ∷ 1 ∷ 0 ∷ []) ∷ (0 ∷ 0 ∷ 0 ∷ 1 ∷ 1 ∷ []) ∷ (0 ∷ 0 ∷ 1 ∷ 0 ∷ 0 ∷ []) ∷ (0 ∷ 0 ∷ 1 ∷ 0 ∷ 1 ∷ []) ∷ [])
+    ∷ (patterns ((0 ∷ 0 ∷ []) ∷ []) ∷ [])))
