@@ -1,0 +1,10 @@
+pub mod Marks
+pub mod Places
+pub mod Skips
+pub mod Sheets
+pub mod LinkStates
+pub mod Numbers
+pub mod Closes
+pub mod Quotes
+pub mod Finds
+pub mod Promise

@@ -1,0 +1,82 @@
+-- `register::find` meets its contract. Assumes nothing.
+use mathlib.Core.Path.{_≡_}
+use native.Mathlib.Omega.{arith}
+use denote.Ref.{now}
+use borrow.Author.Needs.{needs}
+use Rattle.field.proofs.Spelling.{end}
+use Rattle.register.specs.Locating.{clockPlace}
+use Rattle.register.proofs.Finds.{Chosen, find-refused, find-absent, find-chosen, before-it, behind-state, find-there}
+use Rattle.register.proofs.find.Statement.{statement}
+use Rattle.register.proofs.find.Tie as tie
+use Rattle.register.proofs.find.Reads as reads
+use Rattle.register.proofs.find.Lts as lts
+use Rattle.register.proofs.locate.Reads as locate-reads
+use Rattle.register.proofs.past.Reads as past-reads
+
+slice-aggregate-read : tie.Need-slice-aggregate-read
+slice-aggregate-read c = search needs
+
+slice-aggregate-read-2 : tie.Need-slice-aggregate-read-2
+slice-aggregate-read-2 c = search needs
+
+read-requires : tie.Need-read-requires
+read-requires c κs = search needs
+
+enum-known-number : tie.Need-enum-known-number
+enum-known-number c = search needs
+
+enum-known-found : tie.Need-enum-known-found
+enum-known-found c = search needs
+
+returns : tie.Need-returns
+returns c =
+    let r = c .before .before .before .before .before .before .before in
+    let a = r .before .before .before in
+    find-absent (now (a .before .args .s)) (r .read .result) (r .read .ensures .0) (λ j. a .shared-slice-known .given j .fits) _ (c .before .before .before .found .given .1) (a .before .args .i) (c .if1 .taken)
+
+-- the sheet has the clock
+chosen : (c : tie.Else1) → Chosen (now (c .before .before .before .before .before .before .before .before .before .before .before .args .s)) (c .before .before .before .found .given .0 .0 .clockrows) (c .before .before .before .before .before .before .before .before .before .before .before .args .i)
+chosen c =
+    let r = c .before .before .before .before .before .before .before in
+    let a = r .before .before .before in
+    find-chosen (now (a .before .args .s)) (r .read .result) (r .read .ensures .0) (λ j. a .shared-slice-known .given j .fits) _ (c .before .before .before .found .given .1) (a .before .args .i) (c .if1 .left)
+
+locate-requires : tie.Need-locate-requires
+locate-requires c κs = (_, before-it (chosen c))
+
+-- it begins where `locate` says
+begins : (c : tie.After-locate) → c .locate .result ≡ clockPlace (chosen (c .before) .opened .sheet) (c .before .before .before .before .before .before .before .before .before .before .before .before .args .i)
+begins c = c .locate .ensures (chosen (c .before) .opened .sheet) (before-it (chosen (c .before)))
+
+add-past : tie.Need-add-past
+add-past c = record { fits = omega (arith, end (behind-state (chosen (c .before)) (c .locate .result) (begins c) .bytes)) }
+
+past-requires : tie.Need-past-requires
+past-requires c κs = (_, behind-state (chosen (c .before)) (c .locate .result) (begins c))
+
+returns-2 : tie.Need-returns-2
+returns-2 c =
+    let r = c .before .before .before .before .before in
+    let a = r .before .before .before .before in
+    find-refused (now (a .args .s)) (r .read .result) (r .read .ensures .0) (a .args .i) _ _ (c .before .number .given .1)
+
+returns-3 : tie.Need-returns-3
+returns-3 c =
+    let k = chosen (c .before .before) in
+    find-there k (c .before .locate .result) (c .past .result) (begins (c .before)) (c .past .ensures _ (behind-state k (c .before .locate .result) (begins (c .before))))
+
+pub find-spec : {M : Type 1} → statement M
+find-spec =
+    tie.close
+    (tie.spec
+    slice-aggregate-read
+    slice-aggregate-read-2
+    read-requires
+    enum-known-number
+    enum-known-found
+    returns
+    locate-requires
+    add-past
+    past-requires
+    returns-2
+    returns-3)

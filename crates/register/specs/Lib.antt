@@ -1,0 +1,5 @@
+pub mod Locating
+pub mod Skipping
+pub mod Closing
+pub mod Quoting
+pub mod Promise

@@ -1,0 +1,142 @@
+// Closing a clock, and quoting its expression.
+ghost use mathlib.Core.Path.{_≡_};
+ghost use Prim.Native.Nat.{ℕ, _+_};
+ghost use Rattle.field.specs.Field.{fieldOf};
+ghost use Rattle.expression.specs.Reader.{mapped};
+ghost use Rattle.sheet.specs.Sheet.{Sheet};
+ghost use Rattle.register.specs.Locating.{clockPlace, placeOf, locatedIn};
+ghost use Rattle.register.specs.Skipping.{ownBytes, partsOf, HasExpr, HasClocks};
+ghost use Rattle.register.specs.Closing.{closingOf, closingReply, closedBytes};
+ghost use Rattle.register.specs.Quoting.{quotingOf, quotedFrom, quotedPart, quoteReply};
+use field::Cursor;
+use field::Field;
+use sheet::Reading;
+
+// How many bytes a node has besides its parts.
+fn own_bytes(tag: u8) -> usize
+    ensures { λ r. ⌜ r ≡ ownBytes tag ⌝ }
+{
+    match tag {
+        2 => 17,
+        3 => 1,
+        4 => 1,
+        _ => 3,
+    }
+}
+
+// How many parts it has.
+fn parts(tag: u8) -> usize
+    ensures { λ r. ⌜ r ≡ partsOf tag ⌝ }
+{
+    match tag {
+        3 => 1,
+        4 => 2,
+        _ => 0,
+    }
+}
+
+// The place past the expression that stands at `start`: `left` counts the expressions still to skip.
+fn past(s: &[u8], start: usize) -> usize
+    requires { ⌜ ((c : ℕ) × HasExpr (now s) start c) ⌝ }
+    ensures { λ r. ⌜ ((c : ℕ) → HasExpr (now (s .entry)) start c → r ≡ c) ⌝ }
+{
+    let mut at = start;
+    let mut left: usize = 1;
+    while 0 < left {
+        let tag = s[at];
+        at += own_bytes(tag);
+        left = left - 1 + parts(tag);
+    }
+    at
+}
+
+// Where clock `i` begins, from the place of the first clock on.
+fn locate(s: &[u8], first: usize, i: usize) -> usize
+    requires { ⌜ ((v : Sheet) × HasClocks (now s) first i v) ⌝ }
+    ensures { λ r. ⌜ ((v : Sheet) → HasClocks (now (s .entry)) first i v → r ≡ clockPlace v i) ⌝ }
+{
+    let mut at = first;
+    let mut j: usize = 0;
+    while j < i {
+        at = past(s, at + 1);
+        j += 1;
+    }
+    at
+}
+
+// Where clock `i` of a sheet begins, and the cursor past it; or the refusal.
+fn find(s: &[u8], i: usize) -> Field
+    ensures { λ r. ⌜ fieldOf r ≡ mapped placeOf (locatedIn (now (s .entry)) i) ⌝ }
+{
+    let mut table = [0i64; 512];
+    let mut states = [0u8; 128];
+    match sheet::read(s, &mut table, &mut states) {
+        Reading::Refused(number, place) => Field::Refused(number, place),
+        Reading::Whole(found) => {
+            if found.clocks <= i {
+                return Field::Refused(reply::NO_CLOCK, 0);
+            }
+            let at = locate(s, found.clockrows, i);
+            let end = past(s, at + 1);
+            Field::Got(at, Cursor { at: end })
+        }
+    }
+}
+
+// What closing a clock answers: the place of the byte that it turned; or a refusal's number and place.
+pub enum Closing {
+    Closed(usize),
+    Refused(u8, usize),
+}
+
+// Closes a clock: its state byte turns from 0 to 1. A refusal writes nothing.
+pub fn close(sheet: &mut [u8], clock: usize) -> Closing
+    ensures reply { λ r. ⌜ r ≡ closingReply (closingOf (now (sheet .entry)) clock) ⌝ }
+    ensures bytes { λ _. ⌜ now (sheet .exit) ≡ closedBytes (closingOf (now (sheet .entry)) clock) (now (sheet .entry)) ⌝ }
+{
+    let n = sheet.len();
+    match find(&sheet[..n], clock) {
+        Field::Refused(number, place) => Closing::Refused(number, place),
+        Field::Got(at, _) => {
+            if sheet[at] == 1 {
+                return Closing::Refused(reply::ALREADY_CLOSED, 0);
+            }
+            sheet[at] = 1;
+            Closing::Closed(at)
+        }
+    }
+}
+
+// The very part of the sheet that holds a clock's expression; an empty part of its start where that is refused.
+pub fn quote(sheet: &[u8], clock: usize) -> &[u8]
+    ensures part { λ r. ⌜ now r ≡ quotedPart (quotingOf (now (sheet .entry)) clock) (now (sheet .entry)) ⌝ }
+    ensures memory { λ r. ⌜ r .ptr .0 ≡ sheet .entry .ptr .0 ⌝ }
+    ensures from { λ r. ⌜ r .ptr .1 ≡ quotedFrom (quotingOf (now (sheet .entry)) clock) + sheet .entry .ptr .1 ⌝ }
+{
+    match find(sheet, clock) {
+        Field::Refused(_, _) => &sheet[..0],
+        Field::Got(at, c) => {
+            let from = at + 1;
+            let to = c.at;
+            &sheet[from..to]
+        }
+    }
+}
+
+// What quoting a clock answers beside the part itself: a refusal's number and place, or 0 and 0.
+pub struct QuoteReply {
+    pub number: u8,
+    pub place: usize,
+}
+
+pub fn quote_reply(sheet: &[u8], clock: usize) -> QuoteReply
+    ensures { λ r. ⌜ r ≡ quoteReply (quotingOf (now (sheet .entry)) clock) ⌝ }
+{
+    match find(sheet, clock) {
+        Field::Refused(number, place) => QuoteReply { number, place },
+        Field::Got(_, _) => QuoteReply {
+            number: 0,
+            place: 0,
+        },
+    }
+}
