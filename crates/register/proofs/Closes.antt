@@ -100,6 +100,7 @@ module _ (s : List ℕ) (i : ℕ) (o : Opened) (c : ℕ) (opens : Opens s o c) w
       let after : Opens (set s place 1) (closeIn (only i) o) c = rw (closing-open s i o c read k e h) at then-opens in
       rw (closing-open s i o c read k e h)
       (record {
+        there = lookup-below (o .sheet .clocks) i k e;
         spells = turned k e;
         accepted = opens-read (set s place 1) (closeIn (only i) o) c after ∙ ap (got (closeIn (only i) o)) (after .end);
         alters = alters (only i) o (opens .legal);

@@ -19,7 +19,8 @@ use Rattle.sheet.specs.Reader.{Opened}
 use Rattle.sheet.specs.Rooms.{markOf, verdictIn, rowOf, total, sizeOfRow, openRoom, wholeRoom}
 use Rattle.sheet.proofs.Rows.{each-every}
 use Rattle.register.specs.Closing.{marked, closeIn}
-use Rattle.register.specs.Promise.{withIf, those, isOpen, untouched, verdictOfRow, MarkedClosed, LinkStates, Alters}
+use Rattle.register.specs.OpenLinks.{withIf, those, isOpen, untouched, verdictOfRow}
+use Rattle.register.specs.Promise.{MarkedClosed, LinkStates, Alters}
 use Rattle.register.proofs.Marks.{mark-at, unmarked-at}
 
 -- ---- a link's state, from whether its ends are marked

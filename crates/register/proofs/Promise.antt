@@ -37,12 +37,12 @@ by-case {P} s i refusal absent there = sheet (readSheet s) refl
 
 module _ (s : List ℕ) (bytes : AllBytes s) (i : ℕ) where
   -- a clock that is closed is answered by 0, and nothing else is
-  closed-only : numberOf (closingReply (closingOf s i)) ≡ 0 → (o : Opened) × OneClosed s i o (closedBytes (closingOf s i) s)
+  closed-only : numberOf (closingReply (closingOf s i)) ≡ 0 → (o : Opened) × (c : ℕ) × (readSheet s ≡ got o c) × OneClosed s i o (closedBytes (closingOf s i) s)
   closed-only z =
       by-case s i
       (λ number place h. absurd (omega (arith, z, numbered (closing-refused s i number place h), one-to-ten s number place h)))
       (λ o c h e. absurd (omega (arith, z, numbered (closing-absent s i o c h e))))
-      (λ o c k h e. (o, one-closed s i o c (sheet-reads s bytes o c h) k e λ q. absurd (omega (arith, z, numbered (closing-already s i o c h k e q)))))
+      (λ o c k h e. (o, c, h, one-closed s i o c (sheet-reads s bytes o c h) k e λ q. absurd (omega (arith, z, numbered (closing-already s i o c h k e q)))))
     where
       numbered : {number place : ℕ} → closingOf s i ≡ refused number place → numberOf (closingReply (closingOf s i)) ≡ number
       numbered e = ap (λ (r : Read ℕ). numberOf (closingReply r)) e

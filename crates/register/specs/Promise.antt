@@ -1,16 +1,13 @@
 -- What is proved of closing and quoting, one field for each promise: of the bytes s of a sheet.
 use mathlib.Core.Path.{_≡_}
 use mathlib.Core.Logic.{_⊎_, _≢_}
-use mathlib.Core.Bool.{Bool, true, false, not, _||_}
-use mathlib.Core.List.{List, [], _∷_, map}
+use mathlib.Core.Bool.{Bool, true, false}
+use mathlib.Core.List.{List, [], map}
 use mathlib.Core.Option.{some}
 use Prim.Native.Nat.{ℕ, _+_, _≤_, _<_}
-use lib.Dec.{eqb}
 use lib.ListN.{length, getD, getElem?}
 use Rattle.reply.specs.Numbers.{trailing, noClock, alreadyClosed}
 use Rattle.field.specs.Read.{Read.got, Read.refused}
-use Rattle.link.specs.declared.Verdict.{Verdict}
-use Rattle.link.specs.declared.Row.{Row}
 use Rattle.expression.specs.Expression.{Clock, spell}
 use Rattle.sheet.specs.Sheet.{Link, spellSheet}
 use Rattle.sheet.specs.Reader.{Opened, readSheet}
@@ -19,29 +16,10 @@ use Rattle.register.specs.declared.Closing.{Closing}
 use Rattle.register.specs.declared.QuoteReply.{QuoteReply}
 use Rattle.register.specs.Locating.{clockPlace}
 use Rattle.register.specs.Closing.{closedClock, closeSheet, closeIn, closingOf, closingReply, numberOf, replyPlace, closedBytes, closeEach, only, among}
+use Rattle.register.specs.OpenLinks.{those, isOpen, untouched, verdictOfRow}
 use Rattle.register.specs.Quoting.{quotingOf, quotedFrom, quotedPart, quoteReply}
 
--- ---- which links are open
-
-abbrev pub withIf : {A : Type 0} → Bool → A → List A → List A
-withIf true x xs = x ∷ xs
-withIf false x xs = xs
-
--- those of a list that pass a test
-unfoldable pub those : {A : Type 0} → (A → Bool) → List A → List A
-those test [] = []
-those test (x ∷ xs) = withIf (test x) x (those test xs)
-
--- "state (0 open, 1 closed) per link"
-abbrev pub isOpen : Row → Bool
-isOpen r = eqb (r .state) 0
-
--- neither end is chosen
-abbrev pub untouched : (ℕ → Bool) → Row → Bool
-untouched chosen r = not (chosen (r .producer) || chosen (r .consumer))
-
-abbrev pub verdictOfRow : Row → Verdict
-verdictOfRow r = r .verdict
+-- ---- links
 
 -- clock i is there and marked closed
 pub record MarkedClosed (o : Opened) (i : ℕ) : Type 0 where
@@ -77,6 +55,7 @@ pub record Alters (chosen : ℕ → Bool) (before after : Opened) : Type 0 where
 
 -- clock i of the sheet o was open and is closed: from the bytes s to the bytes t
 pub record OneClosed (s : List ℕ) (i : ℕ) (o : Opened) (t : List ℕ) : Type 0 where
+  pub there : i < length (o .sheet .clocks)
   -- the sheet spells the same sheet with one clock marked, and is accepted with the same table
   pub spells : t ≡ spellSheet (closeSheet (only i) (o .sheet))
   pub accepted : readSheet t ≡ got (closeIn (only i) o) (length t)
@@ -104,7 +83,7 @@ pub record ClosePromise (s : List ℕ) (i : ℕ) (r : Closing) (t : List ℕ) : 
   pub closes : (o : Opened) (c : ℕ) (k : Clock) → readSheet s ≡ got o c → getElem? (o .sheet .clocks) i ≡ some k → k .state ≢ 1
       → (numberOf r ≡ 0) × (replyPlace r ≡ clockPlace (o .sheet) i) × OneClosed s i o t
   -- and no other answer is 0
-  pub only-then : numberOf r ≡ 0 → (o : Opened) × OneClosed s i o t
+  pub only-then : numberOf r ≡ 0 → (o : Opened) × (c : ℕ) × (readSheet s ≡ got o c) × OneClosed s i o t
   -- a refusal writes nothing
   pub refusal-writes-nothing : numberOf r ≢ 0 → t ≡ s
 
