@@ -112,7 +112,7 @@ state-at [] i = refl
 state-at (c ∷ cs) zero = refl
 state-at (c ∷ cs) (suc i) = state-at cs i
 
-rows-are : (o : Opened) (ls : List Link) → rowsIn (o .table) (map stateOfClock (o .sheet .clocks)) ls ≡ map (rowOf o) ls
+pub rows-are : (o : Opened) (ls : List Link) → rowsIn (o .table) (map stateOfClock (o .sheet .clocks)) ls ≡ map (rowOf o) ls
 rows-are o [] = refl
 rows-are o (l ∷ ls) = ap₂ {C = List Row} (λ r rs. r ∷ rs) one (rows-are o ls)
   where
@@ -139,10 +139,10 @@ module _ (s : List ℕ) (bytes : AllBytes s) (o : Opened) (c : ℕ) (read : read
     nodes : take (4 * f .clocks) t ≡ flats (o .table)
     nodes = rw (← clocks-are o f f-is) (tables .0)
 
-    states : take (f .clocks) ss ≡ map stateOfClock (o .sheet .clocks)
+    pub states : take (f .clocks) ss ≡ map stateOfClock (o .sheet .clocks)
     states = rw (← clocks-are o f f-is) (tables .1)
 
-    table-is : nodesIn (take (4 * f .clocks) t) ≡ o .table
+    pub table-is : nodesIn (take (4 * f .clocks) t) ≡ o .table
     table-is = lent-nodes t (f .clocks) (o .table) nodes (tables .2)
 
     nodes-many : length (take (4 * f .clocks) t) ≡ 4 * f .clocks
@@ -151,7 +151,7 @@ module _ (s : List ℕ) (bytes : AllBytes s) (o : Opened) (c : ℕ) (read : read
     states-many : length (take (f .clocks) ss) ≡ f .clocks
     states-many = ap length states ∙ length-map (o .sheet .clocks) stateOfClock ∙ sym (opens s bytes o c read .worked .many) ∙ clocks-are o f f-is
 
-    there : rowsAt (linkAt s (length (take (f .clocks) ss))) (f .links) [] (f .linkrows) ≡ got (o .sheet .links) (length s)
+    pub there : rowsAt (linkAt s (length (take (f .clocks) ss))) (f .links) [] (f .linkrows) ≡ got (o .sheet .links) (length s)
     there =
         let at-is : foundOf o .linkrows ≡ f .linkrows = ap (λ (x : Found). x .linkrows) f-is in
         rw (states-many, ← clocks-are o f f-is, ← links-are o f f-is, ← at-is) (links-there s bytes o c read)

@@ -177,7 +177,7 @@ pub enum Ends {
 }
 
 // A link between two of n clocks.
-fn link_ends(start: Cursor, s: &[u8], n: usize) -> Ends
+pub fn link_ends(start: Cursor, s: &[u8], n: usize) -> Ends
     ensures { λ r. ⌜ endsOf r ≡ linkAt (now (s .entry)) n [] (start .at) ⌝ }
 {
     match start.within(s, 2, 0, n, reply::ABSENT) {
@@ -276,7 +276,7 @@ pub fn read(s: &[u8], table: &mut [i64], states: &mut [u8]) -> Reading
 }
 
 // The row of a link from clock i to clock j.
-fn row(i: usize, j: usize, clocks: &[i64], states: &[u8]) -> Row
+pub fn row(i: usize, j: usize, clocks: &[i64], states: &[u8]) -> Row
     requires { ⌜ (4 * i + 3 < length (now clocks)) × (4 * j + 3 < length (now clocks)) × (i < length (now states)) × (j < length (now states)) × Holds (now clocks) ⌝ }
     ensures { λ r. ⌜ r ≡ rowAt (nodesIn (now (clocks .entry))) (now (states .entry)) i j ⌝ }
 {

@@ -1,0 +1,21 @@
+-- The listing of document 01's sheet comes out as it says. Assumes nothing.
+use mathlib.Core.Path.{_≡_, refl}
+use Rattle.whole.specs.Euclid.{euclid, gcdOf}
+use Rattle.field.specs.Field.{lowFirst, fieldAt, fieldIn, signed, signedAt, signedIn}
+use Rattle.envelope.specs.Stream.{ones}
+use Rattle.envelope.specs.Envelope.{resultOf, normalOf, notOf}
+use Rattle.envelope.specs.Word.{onesIn, wordBit, offsets, wordOf}
+use Rattle.envelope.specs.Standing.{beyondOf, hasRoom}
+use Rattle.envelope.specs.Made.{declaredOf, limited, negatedOf}
+use Rattle.link.specs.Link.{earlyOf, sizeOf, verdictOf}
+use Rattle.expression.specs.Evaluate.{fieldsKept, declaredWorth}
+use Rattle.expression.specs.Reader.{node, exprAt}
+use Rattle.sheet.specs.Reader.{rowsAt, sectionAt, bitsAt, wordAt, clockAt, linkAt, readFrom, readSheet}
+use Rattle.sheet.specs.Rooms.{total}
+use Rattle.line.specs.Text.{lastDigits, digits, decimal}
+use Rattle.report.specs.Listing.{envelopeFields, clockLine, verdictFields, linkLine, roomLine, refusedLine, clockLines, linkLines, wholeText, listingOf}
+use Rattle.report.specs.Figures.{given, said}
+
+pub figures : given ≡ said
+unfolding listingOf wholeText clockLines linkLines clockLine linkLine envelopeFields verdictFields roomLine refusedLine decimal digits lastDigits readSheet readFrom sectionAt rowsAt bitsAt wordAt clockAt linkAt exprAt node fieldIn fieldAt lowFirst signedIn signedAt signed onesIn wordOf wordBit offsets ones fieldsKept declaredWorth declaredOf negatedOf limited normalOf notOf resultOf beyondOf hasRoom gcdOf euclid verdictOf earlyOf sizeOf total
+figures = refl

@@ -1,0 +1,61 @@
+-- The promises on the listing are kept. Assumes nothing.
+use mathlib.Core.Path.{_≡_, refl, sym, ap, _∙_}
+use mathlib.Core.List.{List, [], _∷_}
+use Prim.Native.Nat.{ℕ, _*_}
+use native.Mathlib.Omega.{arith}
+use lib.Dec.{leb}
+use lib.IntN.{ℤ}
+use lib.ListN.{length, length-map}
+use lib.Seq.{take-at}
+use Rattle.reply.specs.Numbers.{shortResult}
+use Rattle.field.specs.Read.{Read.got}
+use Rattle.field.proofs.Read.{through, pick-left}
+use Rattle.link.specs.declared.Row.{Row}
+use Rattle.expression.specs.Table.{flats}
+use Rattle.expression.proofs.Tables.{flats-length}
+use Rattle.sheet.specs.Reader.{Opened, readSheet}
+use Rattle.sheet.specs.Rooms.{rowOf, rowsOf, openRoom, wholeRoom}
+use Rattle.sheet.specs.WorkOut.{workedOf, flatRows}
+use Rattle.report.specs.Listing.{wholeText, textOf, listingOf}
+use Rattle.report.specs.Promise.{sheetLines, Shows, Listing, NoSecondReply}
+use Rattle.report.proofs.Texts.{listing-refused}
+
+rows-length : (rs : List Row) → length (flatRows rs) ≡ 3 * length rs
+unfolding flatRows
+rows-length [] = refl
+rows-length (r ∷ rs) = omega (arith, rows-length rs)
+
+module _ (s : List ℕ) where
+  accepted : (o : Opened) (c : ℕ) → readSheet s ≡ got o c → listingOf s ≡ sheetLines o (openRoom o) (wholeRoom o)
+  unfolding listingOf wholeText openRoom wholeRoom
+  accepted o c e = ap textOf e
+
+  -- a sheet that is worked out was read
+  was-read : (A B : ℕ) (o : Opened) (c : ℕ) → workedOf s A B ≡ got o c → readSheet s ≡ got o c
+  unfolding workedOf
+  was-read A B o c h =
+      let r = through (readSheet s) _ o c h in
+      let p = pick-left (leb (4 * length (r .0 .table)) A) _ shortResult 0 o c (r .3) in
+      let q = pick-left (leb (3 * length (r .0 .sheet .links)) B) _ shortResult 0 o c (p .1) in
+      r .2 ∙ q .1
+
+  shows : (clocks links : List ℤ) (o : Opened) (c : ℕ) → readSheet s ≡ got o c → Shows s o (got o c) clocks links
+  shows clocks links o c e =
+      record {
+        text = accepted o c e;
+        clocks-are = take-at (flats (o .table)) _ (4 * length (o .table)) (flats-length (o .table));
+        links-are =
+            take-at (flatRows (rowsOf o)) _ (3 * length (o .sheet .links))
+            (rows-length (rowsOf o) ∙ ap (λ (n : ℕ). 3 * n) (length-map (o .sheet .links) (rowOf o)));
+      }
+
+  pub listing : Listing s
+  listing =
+      record {
+        accepted = accepted;
+        worked-out = λ clocks links o c h. rw h (shows clocks links o c (was-read (length clocks) (length links) o c h));
+        refused-only = λ number place e. sym (listing-refused s number place e);
+      }
+
+pub no-second-reply : NoSecondReply
+no-second-reply s text r q t u a b = (a .answer-is ∙ sym (b .answer-is), a .text-is ∙ sym (b .text-is))

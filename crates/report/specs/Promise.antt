@@ -1,0 +1,46 @@
+-- What is proved of the listing, one field for each promise: of a text s of bytes.
+use mathlib.Core.Path.{_≡_}
+use mathlib.Core.List.{List, _++_, map}
+use Prim.Native.Nat.{ℕ, _*_}
+use lib.IntN.{ℤ}
+use lib.ListN.{length, take}
+use Rattle.field.specs.Read.{Read, Read.got, Read.refused}
+use Rattle.expression.specs.Table.{flats}
+use Rattle.sheet.specs.Reader.{Opened, readSheet}
+use Rattle.sheet.specs.Rooms.{rowsOf, openRoom, wholeRoom}
+use Rattle.sheet.specs.Sections.{stateOfClock}
+use Rattle.sheet.specs.WorkOut.{workedOf, replyOf, flatRows, clocksOut, linksOut}
+use Rattle.report.specs.declared.Listed.{Listed}
+use Rattle.report.specs.Listing.{roomLine, refusedLine, clockLines, linkLines, listingOf, listedOf, textAfter}
+
+-- a line for each clock, a line for each link, and the room line
+abbrev pub sheetLines : Opened → ℕ → ℕ → List ℕ
+sheetLines o opened whole =
+    clockLines 0 (map stateOfClock (o .sheet .clocks)) (o .table) ++ (linkLines 0 (rowsOf o) ++ roomLine opened whole)
+
+-- the listing shows what working the sheet out gives: w, with the slices `clocks` and `links` lent
+pub record Shows (s : List ℕ) (o : Opened) (w : Read Opened) (clocks links : List ℤ) : Type 0 where
+  -- the room line has the two rooms of the reply
+  pub text : listingOf s ≡ sheetLines o (replyOf w .opened) (replyOf w .whole)
+  -- the clock lines have the k, K, l and n that are filled into the one slice
+  pub clocks-are : take (4 * replyOf w .clocks) (clocksOut w clocks) ≡ flats (o .table)
+  -- the link lines have the verdicts, sizes and states that are filled into the other
+  pub links-are : take (3 * replyOf w .links) (linksOut w links) ≡ flatRows (rowsOf o)
+
+pub record Listing (s : List ℕ) : Type 0 where
+  -- every sheet that is accepted is listed, line for line
+  pub accepted : (o : Opened) (c : ℕ) → readSheet s ≡ got o c → listingOf s ≡ sheetLines o (openRoom o) (wholeRoom o)
+  -- and with the numbers that working it out gives
+  pub worked-out : (clocks links : List ℤ) (o : Opened) (c : ℕ) → workedOf s (length clocks) (length links) ≡ got o c
+      → Shows s o (workedOf s (length clocks) (length links)) clocks links
+  -- "A refusal prints only `refused NUMBER at PLACE`."
+  pub refused-only : (number place : ℕ) → readSheet s ≡ refused number place → listingOf s ≡ refusedLine number place
+
+-- what `list` promises: its answer, and what the lent buffer holds at the end
+pub record ListsInto (s text : List ℕ) (answer : Listed) (text-end : List ℕ) : Type 0 where
+  pub answer-is : answer ≡ listedOf s (length text)
+  pub text-is : text-end ≡ textAfter s text
+
+-- it decides the answer and every byte of the buffer: no second reply satisfies it
+abbrev pub NoSecondReply : Type 0
+NoSecondReply = (s text : List ℕ) (r q : Listed) (t u : List ℕ) → ListsInto s text r t → ListsInto s text q u → (r ≡ q) × (t ≡ u)
