@@ -3,6 +3,7 @@ ghost use mathlib.Core.Path.{_≡_};
 ghost use Prim.Native.Nat.{_≤_};
 ghost use lib.ListN.{length};
 ghost use Rattle.io.specs.Counts.{Counts};
+ghost use Rattle.libc.specs.Io.{Ended};
 use register::Closing;
 use terminal::Number;
 
@@ -11,6 +12,27 @@ fn temp_space() -> [u8; 4103]
     ensures { λ r. ⌜ 4103 ≡ length r ⌝ }
 {
     [0; 4103]
+}
+
+// A path as C takes it: a 0 stands after it.
+fn ended(path: &[u8]) -> [u8; 4096]
+    ensures { λ r. ⌜ Ended r ⌝ }
+{
+    let mut name = io::buffer();
+    let mut i: usize = 0;
+    while i < path.len() && i < 4095 {
+        name[i] = path[i];
+        i += 1;
+    }
+    name[4095] = 0;
+    name
+}
+
+// Whether a path names a link: a rename would put the new file in the link's place, and not in that of the file it leads to.
+fn is_link(path: &[u8]) -> bool {
+    let name = ended(path);
+    let mut target = [0u8; 1];
+    0 <= libc::readlink(&name, &mut target)
 }
 
 // How many bytes of a path name its folder: all up to the last slash.
@@ -116,6 +138,10 @@ fn main() {
         return;
     };
     let m = path.bytes;
+    if is_link(&space[..m]) {
+        terminal::complain(b"close", b"FILE is a link", b"the file that it leads to");
+        return;
+    }
     let fd = os::open_update(&space[..m]);
     let mut sheet = terminal::sheet_space();
     let input = terminal::read_file(b"close", fd, &space[..m], &mut sheet);

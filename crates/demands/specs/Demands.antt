@@ -38,7 +38,8 @@ use Rattle.register.specs.declared.QuoteReply.{QuoteReply}
 use Rattle.register.specs.Closing.{numberOf}
 use Rattle.register.specs.Promise.{Closes, ClosePromise, AnySet, Quotes, QuotePromise}
 use Rattle.report.specs.declared.Listed.{Listed}
-use Rattle.demands.specs.Entry.{Fixed, Checks, Firsts, Nexts, Lists}
+use Rattle.report.specs.Promise.{ListsInto}
+use Rattle.demands.specs.Entry.{Fixed, Checks, Firsts, Nexts}
 
 -- every count and total is 0
 pub record NoTotals (r : Reply) : Type 0 where
@@ -54,7 +55,7 @@ pub record Demand1 : Type 0 where
   pub work-out-fixed : (s : List ℕ) (clocks links : List ℤ) → Fixed (λ (a : Reply × List ℤ × List ℤ). WorksOut s clocks links (a .0) (a .1) (a .2))
   pub close-fixed : (s : List ℕ) (i : ℕ) → Fixed (λ (a : Closing × List ℕ). Closes s i (a .0) (a .1))
   pub quote-fixed : (s : List ℕ) (i : ℕ) → Fixed (λ (a : ℕ × List ℕ × QuoteReply). Quotes s i (a .0) (a .1) (a .2))
-  pub list-fixed : (s t : List ℕ) → Fixed (λ (a : Listed × List ℕ). Lists s t (a .0) (a .1))
+  pub list-fixed : (s t : List ℕ) → Fixed (λ (a : Listed × List ℕ). ListsInto s t (a .0) (a .1))
   -- "envelope and pattern": e is any four numbers, p any bytes
   pub check-fixed : (e : Envelope) (p : List ℕ) → Fixed (λ (a : Answer). Checks e p a)
   pub first-fixed : (e : Envelope) (p : List ℕ) → Fixed (λ (a : Answer × List ℕ). Firsts e p (a .0) (a .1))
@@ -65,7 +66,7 @@ pub record Demand1 : Type 0 where
   pub close-untouched : (s : List ℕ) (i : ℕ) (r : Closing) (t : List ℕ) → Closes s i r t → numberOf r ≢ 0 → t ≡ s
   pub first-untouched : (e : Envelope) (p : List ℕ) (number place : ℕ) (q : List ℕ) → Firsts e p (Refused number place) q → q ≡ p
   pub next-untouched : (e : Envelope) (p : List ℕ) (number place : ℕ) (q : List ℕ) → Nexts e p (Refused number place) q → q ≡ p
-  pub list-untouched : (s t u : List ℕ) → Lists s t Listed.Short u → u ≡ t
+  pub list-untouched : (s t u : List ℕ) → ListsInto s t Listed.Short u → u ≡ t
 
 -- "2. Envelopes, verdicts and sizes are those of Cohen, Mandel, Plateau and Pouzet's clock envelopes, with the rounding and limits of document 01.
 -- Closing a clock alters one mark in the sheet and no envelope, verdict, size or whole total."

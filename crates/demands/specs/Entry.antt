@@ -1,13 +1,11 @@
--- What the contract of each entry point says of a call: the reply, and the lent memory at the end. Each is the contract in the code, word for word.
+-- What the contracts of the pattern entry points say of a call: the answer, and the slice at the end. Each is the contract in the code, word for word;
+-- those of the other entry points stand in their own crates (WorksOut, Closes, Quotes, ListsInto).
 use mathlib.Core.Path.{_≡_}
 use mathlib.Core.List.{List}
 use Prim.Native.Nat.{ℕ}
 use Rattle.envelope.specs.declared.Envelope.{Envelope}
 use Rattle.pattern.specs.declared.Answer.{Answer}
 use Rattle.pattern.specs.Answer.{checkAnswer, firstAnswer, firstBytes, nextAnswer, nextBytes}
-use Rattle.report.specs.declared.Listed.{Listed}
-use Rattle.report.specs.Listing.{listedOf, textAfter}
-use lib.ListN.{length}
 
 -- there is a reply that satisfies the contract, and no second one does
 pub record Fixed {A : Type 0} (Contract : A → Type 0) : Type 0 where
@@ -27,8 +25,3 @@ pub record Firsts (e : Envelope) (p : List ℕ) (answer : Answer) (q : List ℕ)
 pub record Nexts (e : Envelope) (p : List ℕ) (answer : Answer) (q : List ℕ) : Type 0 where
   pub answer-is : answer ≡ nextAnswer e p
   pub bytes-are : q ≡ nextBytes e p
-
--- list: the sheet s, the buffer t at the beginning, u at the end
-pub record Lists (s t : List ℕ) (answer : Listed) (u : List ℕ) : Type 0 where
-  pub answer-is : answer ≡ listedOf s (length t)
-  pub text-is : u ≡ textAfter s t
