@@ -1,21 +1,6 @@
-//! A second program for design sheets: worked out anew from the rules, to be tried against.
+//! The command line of the second program.
 
-mod bench;
-mod cases;
-mod drive;
-mod envelope;
-mod generate;
-mod listing;
-mod model;
-mod pattern;
-mod protocol;
-mod sheet;
-mod tally;
-#[cfg(test)]
-mod tests;
-mod theory;
-mod walks;
-
+use second::{drive, listing, protocol, theory};
 use std::env;
 use std::io::{self, Read, Write};
 use std::process::ExitCode;
@@ -25,7 +10,7 @@ const USAGE: &str = "usage: run [--cases N] [--seed S] [--op NAME] [--batch CMD]
            [--max-failures N] [--timeout SECONDS]
        run --replay FILE [--batch CMD]
        run --malformed [--batch CMD]
-       run --theory | --bench | --bench-inputs FOLDER | --list | --serve";
+       run --theory | --list | --serve";
 
 fn main() -> ExitCode {
     match work() {
@@ -65,10 +50,6 @@ fn work() -> Result<bool, String> {
             "replay" => replay = Some(value()?),
             "malformed" => malformed = true,
             "serve" => return Ok(protocol::serve()),
-            "bench" => return Ok(bench::run()),
-            "bench-inputs" => {
-                return bench::write_inputs(&value()?).map_err(|error| error.to_string())
-            }
             "theory" => return Ok(theory::run()),
             "list" => return list().map_err(|error| error.to_string()),
             _ => return Err(USAGE.to_string()),

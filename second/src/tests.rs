@@ -1,13 +1,13 @@
 //! The figures of the rules, and some of their sentences.
 
-use crate::bench::{full, typical, EXAMPLE};
+use crate::samples::{full, typical, EXAMPLE};
 use crate::cases;
 use crate::envelope::{div_down, div_up, Envelope, Verdict};
 use crate::listing::list;
 use crate::model::{marked, not, on, Expr, Model, Word};
 use crate::pattern::{check, first, next, Four};
 use crate::protocol::Case;
-use crate::sheet::{close, quote, work_out, Counts, Design, Refusal};
+use crate::sheet::{close, quote, work_out, Counts, Design, Refusal, SHEET_MAX};
 
 fn bits(text: &str) -> Vec<u8> {
     text.bytes().map(|byte| byte - b'0').collect()
@@ -211,9 +211,10 @@ fn patterns() {
 }
 
 #[test]
-fn bench_sheets_are_taken() {
+fn sample_sheets_are_taken() {
     assert_eq!(worked(&typical()).unwrap().len(), 4 * 24);
     assert_eq!(worked(&full()).unwrap().len(), 4 * 128);
+    assert_eq!(full().len(), SHEET_MAX);
 }
 
 #[test]

@@ -163,13 +163,24 @@ fn close(out: &mut [u8]) -> Turn
     sent(out, end)
 }
 
+// Number and place of quoting: only a refusal's part is empty, so no other has the sheet read twice.
+fn put_quoting(out: &mut [u8], sheet: &[u8], clock: usize, part: &[u8])
+    requires { ⌜ 9 ≤ length (now out) ⌝ }
+{
+    if part.len() == 0 {
+        let r = register::quote_reply(sheet, clock);
+        put_reply(out, r.number, r.place as u64);
+    } else {
+        put_reply(out, 0, 0);
+    }
+}
+
 // The part is written from where it stands.
 fn quoted(sheet: &[u8], clock: usize, out: &mut [u8]) -> Turn
     requires { ⌜ length (now out) ≡ 65553 ⌝ }
 {
-    let r = register::quote_reply(sheet, clock);
     let part = register::quote(sheet, clock);
-    put_reply(out, r.number, r.place as u64);
+    put_quoting(out, sheet, clock, part);
     let end = put(out, REPLY, 4, part.len() as u64);
     let Turn::Answered = sent(out, end) else {
         return Turn::Ended;

@@ -78,14 +78,21 @@ pub extern "C" fn txori_close(sheet: &mut [u8], clock: usize) -> TxoriReply
     }
 }
 
-// The part is copied, since no reference crosses as a result: a part that the buffer can't hold is not begun.
+// The part is copied, since no reference crosses as a result, and not begun where it can't be held. Only a refusal's is empty.
 #[no_mangle]
 pub extern "C" fn txori_quote(sheet: &[u8], clock: usize, out: &mut [u8]) -> TxoriWritten
     ensures reply { λ r. ⌜ r ≡ quoteWritten (quoteReply (quotingOf (now (sheet .entry)) clock)) (quotedPart (quotingOf (now (sheet .entry)) clock) (now (sheet .entry))) (length (now (out .entry))) ⌝ }
     ensures bytes { λ _. ⌜ now (out .exit) ≡ over (quotedPart (quotingOf (now (sheet .entry)) clock) (now (sheet .entry))) (now (out .entry)) ⌝ }
 {
-    let r = register::quote_reply(sheet, clock);
     let part = register::quote(sheet, clock);
+    if part.len() == 0 {
+        let r = register::quote_reply(sheet, clock);
+        return TxoriWritten {
+            number: r.number as u64,
+            place: r.place as u64,
+            length: 0,
+        };
+    }
     if out.len() < part.len() {
         return TxoriWritten {
             number: reply::SHORT_RESULT as u64,
@@ -95,8 +102,8 @@ pub extern "C" fn txori_quote(sheet: &[u8], clock: usize, out: &mut [u8]) -> Txo
     }
     let end = line::put_bytes(out, 0, part);
     TxoriWritten {
-        number: r.number as u64,
-        place: r.place as u64,
+        number: 0,
+        place: 0,
         length: end as u64,
     }
 }

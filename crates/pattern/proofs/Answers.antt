@@ -25,8 +25,8 @@ use Rattle.pattern.specs.declared.Judged.{Judged}
 use Rattle.pattern.specs.declared.Judged.the-variants.{Sound, Unsound}
 use Rattle.pattern.specs.Pattern.{longest, plain}
 use Rattle.pattern.specs.Answer.{given, isFine, checkAnswer, firstAnswer, firstBytes, nextOf, nextAnswer, nextBytes}
-use Rattle.pattern.specs.Scan.{Near, onward, filled, unmarked, scanned, judged}
-use Rattle.pattern.proofs.Offsets.{offset-start, filled-is, near-on, near-more, near-held}
+use Rattle.pattern.specs.Scan.{Near, onward, filled, reached, markOf, scanned, judged}
+use Rattle.pattern.proofs.Offsets.{offset-start, filled-is, near-on, near-more, near-held, near-reached}
 use Rattle.pattern.proofs.Replies.{fromMark, next-mark, Sane, sane, answerOf, judged-check, Passes, sound-is}
 
 -- ---- four numbers, as the machine holds them: what is said of those is said of the numbers
@@ -60,7 +60,7 @@ module _ (e : Envelope) (p : List ℕ) where
           let h : plain p < length p = omega arith in
           rw (fine, le-ltb longest (length p) short, lt-ltb (plain p) (length p) h, q)
 
-      pub judge-scan : (j : Judged) → length p ≤ plain p → j ≡ scanned e 0 (pos 0) unmarked p → j ≡ judged e p
+      pub judge-scan : (j : Judged) → length p ≤ plain p → j ≡ scanned e 0 (pos 0) p → j ≡ judged e p
       unfolding judged
       judge-scan j k q = rw (fine, le-ltb longest (length p) short, le-ltb (plain p) (length p) k) q
 
@@ -94,70 +94,80 @@ module _ (e : Envelope) (p : List ℕ) where
       let w : checkAnswer e p ≡ Refused number place = sym (check-is (Unsound number place) q) in
       (rw w, rw w)
 
-  module _ (m : Mark) (q : Sound m ≡ judged e p) where
-    passing : Passes e p m
-    passing = sound-is e p m q
+  module _ (end : ℤ) (q : Sound end ≡ judged e p) where
+    passing : Passes e p end
+    passing = sound-is e p end q
 
     is-inside : checkAnswer e p ≡ Inside
-    is-inside = sym (check-is (Sound m) q)
+    is-inside = sym (check-is (Sound end) q)
 
-    next-fine : nextOf e p ≡ fromMark e p (m .place) (m .offset)
-    next-fine = sym (next-mark e p) ∙ ap (λ (r : Mark). fromMark e p (r .place) (r .offset)) (sym (passing .is-last))
+    pub short : length p ≤ longest
+    short = passing .short
 
-    pub next-last : m .place ≡ 0 → (Last ≡ nextAnswer e p) × (p ≡ nextBytes e p)
-    unfolding nextAnswer nextBytes
-    next-last h =
-        let n : nextOf e p ≡ none = next-fine ∙ ap (λ (t : ℕ). fromMark e p t (m .offset)) h in
-        (rw (is-inside, n), rw (is-inside, n))
+    pub taken : Taken e
+    taken = passing .taken
 
-    -- ---- where there is a mark, its 0 becomes a 1
-    module _ (some-mark : m .place ≡ 0 → ⊥) where
-      -- one place before the mark's number
-      mark-is : m .place ≡ suc (m .place - 1)
-      mark-is = omega (arith, some-mark)
+    pub all-bits : length p ≤ plain p
+    all-bits = passing .all-bits
 
-      sane-mark : Sane e (length p) m
-      sane-mark = subst (Sane e (length p)) (sym (passing .is-last)) (sane e (passing .taken) p)
+    -- the machine has the offset past the end
+    pub end-held : toZ w64 (ofZ w64 end) ≡ reached e (pos 0) p
+    end-held =
+        ap (λ (d : ℤ). toZ w64 (ofZ w64 d)) (passing .is-end)
+        ∙ near-held (length p) (reached e (pos 0) p) short (near-reached e taken p)
 
-      pub within : m .place ≤ length p
-      within = sane-mark .within
+    module _ (m : Mark) (is-mark : m ≡ markOf e p) where
+      next-fine : nextOf e p ≡ fromMark e p (m .place) (m .offset)
+      next-fine = sym (next-mark e p) ∙ ap (λ (r : Mark). fromMark e p (r .place) (r .offset)) (sym is-mark)
 
-      pub short : length p ≤ longest
-      short = passing .short
+      pub next-last : m .place ≡ 0 → (Last ≡ nextAnswer e p) × (p ≡ nextBytes e p)
+      unfolding nextAnswer nextBytes
+      next-last h =
+          let n : nextOf e p ≡ none = next-fine ∙ ap (λ (t : ℕ). fromMark e p t (m .offset)) h in
+          (rw (is-inside, n), rw (is-inside, n))
 
-      pub taken : Taken e
-      taken = passing .taken
+      -- ---- where there is a mark, its 0 becomes a 1
+      module _ (some-mark : m .place ≡ 0 → ⊥) where
+        -- one place before the mark's number
+        mark-is : m .place ≡ suc (m .place - 1)
+        mark-is = omega (arith, some-mark)
 
-      near-mark : Near (m .place - 1) (m .offset)
-      near-mark = sane-mark .near (m .place - 1) mark-is
+        sane-mark : Sane e (length p) m
+        sane-mark = subst (Sane e (length p)) (sym is-mark) (sane e taken p)
 
-      mark-held : toZ w64 (ofZ w64 (m .offset)) ≡ m .offset
-      mark-held = near-held (m .place - 1) (m .offset) (omega (arith, within, short)) near-mark
+        pub within : m .place ≤ length p
+        within = sane-mark .within
 
-      pub near-held-mark : Near longest (toZ w64 (ofZ w64 (m .offset)))
-      near-held-mark = rw mark-held (near-more (m .place - 1) longest (m .offset) (omega (arith, within, short)) near-mark)
+        near-mark : Near (m .place - 1) (m .offset)
+        near-mark = sane-mark .near (m .place - 1) mark-is
 
-      near-raised : Near (m .place) (onward e (m .offset) 1)
-      near-raised = subst (λ (k : ℕ). Near k (onward e (m .offset) 1)) (sym mark-is) (near-on e taken (m .place - 1) (m .offset) 1 near-mark)
+        mark-held : toZ w64 (ofZ w64 (m .offset)) ≡ m .offset
+        mark-held = near-held (m .place - 1) (m .offset) (omega (arith, within, short)) near-mark
 
-      -- the offset after that 1, of which the machine has r
-      module _ (r : ℤ) (is-on : r ≡ onward e (toZ w64 (ofZ w64 (m .offset))) 1) where
-        raised-held : toZ w64 (ofZ w64 r) ≡ onward e (m .offset) 1
-        raised-held =
-            ap (λ (d : ℤ). toZ w64 (ofZ w64 d)) (is-on ∙ ap (λ (d : ℤ). onward e d 1) mark-held)
-            ∙ near-held (m .place) (onward e (m .offset) 1) (omega (arith, within, short)) near-raised
+        pub near-held-mark : Near longest (toZ w64 (ofZ w64 (m .offset)))
+        near-held-mark = rw mark-held (near-more (m .place - 1) longest (m .offset) (omega (arith, within, short)) near-mark)
 
-        pub near-after : Near (m .place) (toZ w64 (ofZ w64 r))
-        near-after = rw raised-held near-raised
+        near-raised : Near (m .place) (onward e (m .offset) 1)
+        near-raised = subst (λ (k : ℕ). Near k (onward e (m .offset) 1)) (sym mark-is) (near-on e taken (m .place - 1) (m .offset) 1 near-mark)
 
-        pub next-done : (w : List ℕ) → w ≡ take (m .place) (set p (m .place - 1) 1) ++ filled e (toZ w64 (ofZ w64 r)) (length (set p (m .place - 1) 1) - m .place) → (Done ≡ nextAnswer e p) × (w ≡ nextBytes e p)
-        unfolding nextAnswer nextBytes
-        next-done w h =
-            let t : ℕ = m .place - 1 in
-            let d : ℤ = onward e (m .offset) 1 in
-            let tail : List ℕ = filled e d (length p - suc t) in
-            let in-p : t < length p = omega (arith, mark-is, within) in
-            let n : nextOf e p ≡ some (take t p ++ (1 ∷ tail)) = next-fine ∙ ap (λ (k : ℕ). fromMark e p k (m .offset)) mark-is in
-            let h′ : w ≡ take (suc t) (set p t 1) ++ filled e d (length (set p t 1) - suc t) = h ∙ ap (λ (x : ℤ). take (m .place) (set p t 1) ++ filled e x (length (set p t 1) - m .place)) raised-held ∙ ap (λ (k : ℕ). take k (set p t 1) ++ filled e d (length (set p t 1) - k)) mark-is in
-            let moved : w ≡ take t p ++ (1 ∷ tail) = h′ ∙ rw (length-set p t 1, take-suc-set p t 1 in-p) (append-snoc (take t p) 1 tail) in
-            (rw (is-inside, n), rw (is-inside, n) moved)
+        -- the offset after that 1, of which the machine has r
+        module _ (r : ℤ) (is-on : r ≡ onward e (toZ w64 (ofZ w64 (m .offset))) 1) where
+          raised-held : toZ w64 (ofZ w64 r) ≡ onward e (m .offset) 1
+          raised-held =
+              ap (λ (d : ℤ). toZ w64 (ofZ w64 d)) (is-on ∙ ap (λ (d : ℤ). onward e d 1) mark-held)
+              ∙ near-held (m .place) (onward e (m .offset) 1) (omega (arith, within, short)) near-raised
+
+          pub near-after : Near (m .place) (toZ w64 (ofZ w64 r))
+          near-after = rw raised-held near-raised
+
+          pub next-done : (w : List ℕ) → w ≡ take (m .place) (set p (m .place - 1) 1) ++ filled e (toZ w64 (ofZ w64 r)) (length (set p (m .place - 1) 1) - m .place) → (Done ≡ nextAnswer e p) × (w ≡ nextBytes e p)
+          unfolding nextAnswer nextBytes
+          next-done w h =
+              let t : ℕ = m .place - 1 in
+              let d : ℤ = onward e (m .offset) 1 in
+              let tail : List ℕ = filled e d (length p - suc t) in
+              let in-p : t < length p = omega (arith, mark-is, within) in
+              let n : nextOf e p ≡ some (take t p ++ (1 ∷ tail)) = next-fine ∙ ap (λ (k : ℕ). fromMark e p k (m .offset)) mark-is in
+              let h′ : w ≡ take (suc t) (set p t 1) ++ filled e d (length (set p t 1) - suc t) = h ∙ ap (λ (x : ℤ). take (m .place) (set p t 1) ++ filled e x (length (set p t 1) - m .place)) raised-held ∙ ap (λ (k : ℕ). take k (set p t 1) ++ filled e d (length (set p t 1) - k)) mark-is in
+              let moved : w ≡ take t p ++ (1 ∷ tail) = h′ ∙ rw (length-set p t 1, take-suc-set p t 1 in-p) (append-snoc (take t p) 1 tail) in
+              (rw (is-inside, n), rw (is-inside, n) moved)

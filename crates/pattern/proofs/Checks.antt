@@ -9,7 +9,7 @@ use mathlib.Core.Bool.{Bool, true, false, cond, false≢true}
 use mathlib.Core.List.{List, [], _∷_}
 use lib.ListN.{length, getD, take}
 use lib.Dec.{ltb, leb}
-use borrow.Author.Tests.{ltb-true, ltb-false, leb-true, leb-false, le-ltb}
+use borrow.Author.Tests.{ltb-true, ltb-false, leb-false, le-ltb}
 use Rattle.reply.specs.Numbers.{noEnvelope, longPattern, notABit, outside}
 use Rattle.envelope.specs.declared.Envelope.{Envelope}
 use Rattle.envelope.specs.Envelope.{Taken}
@@ -23,6 +23,7 @@ use Rattle.pattern.specs.Answer.{numberOf, placeOf, isFine, stepsOf, che
 use Rattle.pattern.specs.Walk.{Refusals}
 use Rattle.pattern.proofs.Walking.{is-true, to-T}
 use Rattle.pattern.proofs.Binary.{Bits}
+use Rattle.pattern.proofs.Loops.{plain-before}
 use Rattle.pattern.proofs.Replies.{is-taken, taken-is}
 use Rattle.pattern.proofs.Beginnings.{begins-in, in-begins}
 
@@ -71,15 +72,6 @@ plain-stops (b ∷ p) h = go (leb b 1) refl (plain-stops p)
     go : (t : Bool) → leb b 1 ≡ t → (plain p < length p → 1 < getD p (plain p) 0) → 1 < getD (b ∷ p) (plain (b ∷ p)) 0
     go true q ih = rw q (ih (le-of-suc-le-suc (rw q at h)))
     go false q ih = rw q (leb-false b 1 q)
-
-plain-before : (p : List ℕ) (t : ℕ) → t < plain p → getD p t 0 ≤ 1
-plain-before [] t h = absurd (not-suc-le-zero h)
-plain-before (b ∷ p) t h = go (leb b 1) refl t h (plain-before p)
-  where
-    go : (x : Bool) → leb b 1 ≡ x → (t : ℕ) → t < cond x (suc (plain p)) zero → ((t : ℕ) → t < plain p → getD p t 0 ≤ 1) → getD (b ∷ p) t 0 ≤ 1
-    go true q zero k ih = leb-true b 1 q
-    go true q (suc t) k ih = ih t (le-of-suc-le-suc k)
-    go false q t k ih = absurd (not-suc-le-zero k)
 
 bits-plain : (p : List ℕ) → Bits p → plain p ≡ length p
 bits-plain [] h = refl

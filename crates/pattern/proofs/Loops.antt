@@ -1,26 +1,28 @@
 -- One turn of each loop, as a law on lists.
 -- Assumes nothing.
-use Prim.Native.Nat.{ℕ, suc, _+_, _-_, _≤_, _<_}
+use Prim.Native.Nat.{ℕ, zero, suc, _+_, _-_, _≤_, _<_}
+use native.Mathlib.Nat.{add-zero, zero-add, add-suc, suc-add, not-suc-le-zero, le-of-suc-le-suc}
 use native.Mathlib.Numerals.{add-one}
 use native.Mathlib.Omega.{arith}
 use mathlib.Core.Path.{_≡_, refl, sym, ap, _∙_}
 use mathlib.Core.Bool.{Bool, true, false, cond}
 use mathlib.Core.List.{List, [], _∷_, _++_, append-nil}
-use lib.IntN.{ℤ}
+use lib.IntN.{ℤ, pos}
 use lib.ListN.{length, getD, take, drop, set}
-use lib.Seq.{drop-cons, take-suc-set, take-all, append-snoc}
+use lib.Seq.{drop-cons, take-suc, take-suc-set, take-all, length-take-le, append-snoc}
 use mir.Syntax.{w64}
 use mir.Val.{toZ, ofZ}
-use lib.Dec.{ltb}
-use borrow.Author.Tests.{le-leb, lt-leb, ltb-true, ltb-false}
+use lib.Dec.{ltb, leb}
+use borrow.Author.Tests.{le-leb, lt-leb, leb-true, ltb-true, ltb-false}
 use Rattle.reply.specs.Numbers.{outside}
+use Rattle.whole.specs.Order.{larger}
 use Rattle.envelope.specs.declared.Envelope.{Envelope}
 use Rattle.pattern.specs.declared.Mark.{Mark}
 use Rattle.pattern.specs.declared.Judged.the-variants.{Unsound}
 use Rattle.envelope.specs.Envelope.{Taken}
 use Rattle.pattern.specs.Pattern.{longest, plain}
-use Rattle.pattern.specs.Scan.{Near, mayAt, onward, leastAt, filled, marked, scanned, largestFrom}
-use Rattle.pattern.proofs.Offsets.{near-on, near-held}
+use Rattle.pattern.specs.Scan.{Near, oneAt, zeroAt, mayAt, onward, leastAt, filled, reached, scanned, leastWith, sweptFrom, marked, unmarked, lastMark, markOf, largestFrom}
+use Rattle.pattern.proofs.Offsets.{near-on, near-held, on-injective}
 
 -- ---- the first byte that is no bit
 pub plain-go : (p : List ℕ) (i : ℕ) → i < length p → getD p i 0 ≤ 1 → plain (drop i p) ≡ suc (plain (drop (suc i) p))
@@ -28,6 +30,15 @@ plain-go p i h k = rw (drop-cons p i 0 h, le-leb (getD p i 0) 1 k)
 
 pub plain-stop : (p : List ℕ) (i : ℕ) → i < length p → 1 < getD p i 0 → plain (drop i p) ≡ 0
 plain-stop p i h k = rw (drop-cons p i 0 h, lt-leb (getD p i 0) 1 k)
+
+pub plain-before : (p : List ℕ) (t : ℕ) → t < plain p → getD p t 0 ≤ 1
+plain-before [] t h = absurd (not-suc-le-zero h)
+plain-before (b ∷ p) t h = go (leb b 1) refl t h (plain-before p)
+  where
+    go : (x : Bool) → leb b 1 ≡ x → (t : ℕ) → t < cond x (suc (plain p)) zero → ((t : ℕ) → t < plain p → getD p t 0 ≤ 1) → getD (b ∷ p) t 0 ≤ 1
+    go true q zero k ih = leb-true b 1 q
+    go true q (suc t) k ih = ih t (le-of-suc-le-suc k)
+    go false q t k ih = absurd (not-suc-le-zero k)
 
 -- ---- the largest byte: where it is at most 1, all bytes are bits
 pub largest-turn : (p : List ℕ) (i m : ℕ) → i < length p → largestFrom m (drop i p) ≡ largestFrom (cond (ltb m (getD p i 0)) (getD p i 0) m) (drop (i + 1) p)
@@ -56,13 +67,74 @@ module _ (e : Envelope) (t : Taken e) (i : ℕ) (d : ℤ) (b : ℕ) (r : ℤ) (v
   pub near-turn : Near (i + 1) (toZ w64 (ofZ w64 r))
   near-turn = rw on-held near-next
 
-module _ (e : Envelope) (p : List ℕ) (i : ℕ) (d : ℤ) (m : Mark) (h : i < length p) where
-  pub scan-stop : mayAt e d (getD p i 0) ≡ false → scanned e i d m (drop i p) ≡ Unsound outside i
+module _ (e : Envelope) (p : List ℕ) (i : ℕ) (d : ℤ) (h : i < length p) where
+  pub scan-stop : mayAt e d (getD p i 0) ≡ false → scanned e i d (drop i p) ≡ Unsound outside i
   scan-stop k = rw (drop-cons p i 0 h, k)
 
-  -- the machine has the offset s and the mark w
-  pub scan-turn : (s : ℤ) (w : Mark) → mayAt e d (getD p i 0) ≡ true → s ≡ onward e d (getD p i 0) → w ≡ marked e i d m (getD p i 0) → scanned e i d m (drop i p) ≡ scanned e (i + 1) s w (drop (i + 1) p)
-  scan-turn s w k es ew = rw (es, ew, add-one, drop-cons p i 0 h, k)
+  -- the machine has the offset s
+  module _ (s : ℤ) (is-on : s ≡ onward e d (getD p i 0)) where
+    pub scan-turn : mayAt e d (getD p i 0) ≡ true → scanned e i d (drop i p) ≡ scanned e (i + 1) s (drop (i + 1) p)
+    scan-turn k = rw (is-on, add-one, drop-cons p i 0 h, k)
+
+    pub sweep-turn : (least most x y : ℤ) → x ≡ leastWith least d (getD p i 0) → y ≡ larger most s → sweptFrom e least most d (drop i p) ≡ sweptFrom e x y s (drop (i + 1) p)
+    sweep-turn least most x y ex ey = rw (ex, ey, is-on, add-one, drop-cons p i 0 h)
+
+-- ---- from the end: one bit less
+reached-snoc : (e : Envelope) (q : List ℕ) (d : ℤ) (b : ℕ) → reached e d (q ++ (b ∷ [])) ≡ onward e (reached e d q) b
+reached-snoc e [] d b = refl
+reached-snoc e (c ∷ q) d b = reached-snoc e q (onward e d c) b
+
+mark-snoc : (e : Envelope) (q : List ℕ) (i : ℕ) (d : ℤ) (m : Mark) (b : ℕ) → lastMark e i d m (q ++ (b ∷ [])) ≡ marked e (i + length q) (reached e d q) (lastMark e i d m q) b
+mark-snoc e [] i d m b = rw add-zero
+mark-snoc e (c ∷ q) i d m b = rw (add-suc, ← suc-add) (mark-snoc e q (suc i) (onward e d c) (marked e i d m c) b)
+
+module _ (e : Envelope) (p : List ℕ) (i : ℕ) (h : i < length p) where
+  reached-before : reached e (pos 0) (take (suc i) p) ≡ onward e (reached e (pos 0) (take i p)) (getD p i 0)
+  reached-before = rw (take-suc p i 0 h) (reached-snoc e (take i p) (pos 0) (getD p i 0))
+
+  mark-before : markOf e (take (suc i) p) ≡ marked e i (reached e (pos 0) (take i p)) (markOf e (take i p)) (getD p i 0)
+  mark-before =
+      let l : 0 + length (take i p) ≡ i = zero-add (length (take i p)) ∙ length-take-le i p (omega arith) in
+      rw (take-suc p i 0 h)
+      (mark-snoc e (take i p) 0 (pos 0) unmarked (getD p i 0)
+      ∙ ap (λ (k : ℕ). marked e k (reached e (pos 0) (take i p)) (markOf e (take i p)) (getD p i 0)) l)
+
+-- one place back from i, where the machine has the offsets d and then r
+module _ (e : Envelope) (p : List ℕ) (i : ℕ) (there : 0 < i) (h : i ≤ length p) (d r : ℤ) (at-i : d ≡ reached e (pos 0) (take i p)) (back : onward e r (getD p (i - 1) 0) ≡ d) where
+  i-is : i ≡ suc (i - 1)
+  i-is = omega arith
+
+  pub offset-back : r ≡ reached e (pos 0) (take (i - 1) p)
+  offset-back =
+      on-injective e r (reached e (pos 0) (take (i - 1) p)) (getD p (i - 1) 0)
+      (back ∙ at-i ∙ ap (λ (k : ℕ). reached e (pos 0) (take k p)) i-is ∙ reached-before e p (i - 1) (omega arith))
+
+  mark-back : markOf e (take i p) ≡ marked e (i - 1) r (markOf e (take (i - 1) p)) (getD p (i - 1) 0)
+  mark-back =
+      ap (λ (k : ℕ). markOf e (take k p)) i-is
+      ∙ mark-before e p (i - 1) (omega arith)
+      ∙ ap (λ (z : ℤ). marked e (i - 1) z (markOf e (take (i - 1) p)) (getD p (i - 1) 0)) (sym offset-back)
+
+  -- the 0 before place i could be a 1
+  pub mark-found : getD p (i - 1) 0 ≡ 0 → oneAt e r ≡ true → markOf e (take i p) ≡ record { place = i; offset = r }
+  mark-found q k =
+      mark-back
+      ∙ (rw (q, k) (ap (λ (x : ℕ). record { place = x; offset = r }) (sym i-is)))
+
+  -- it could not, or it is a 1
+  pub mark-stays : (getD p (i - 1) 0 ≡ 0 → oneAt e r ≡ false) → markOf e (take i p) ≡ markOf e (take (i - 1) p)
+  mark-stays f = mark-back ∙ go (getD p (i - 1) 0) refl
+    where
+      go : (b : ℕ) → getD p (i - 1) 0 ≡ b → marked e (i - 1) r (markOf e (take (i - 1) p)) b ≡ markOf e (take (i - 1) p)
+      go zero q = rw (f q)
+      go (suc b) q = refl
+
+pub least-bit : (e : Envelope) (d : ℤ) → leastAt e d ≤ 1
+least-bit e d = go (zeroAt e d)
+  where
+    go : (t : Bool) → cond t 0 1 ≤ 1
+    go true = omega arith
+    go false = omega arith
 
 -- a turn that stores b, the smaller bit that may follow
 module _ (e : Envelope) (p : List ℕ) (n i : ℕ) (d : ℤ) (b : ℕ) (length-is : length p ≡ n) (h : i < n) (is-least : b ≡ leastAt e d) where

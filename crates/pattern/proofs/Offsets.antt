@@ -1,25 +1,26 @@
 -- The offset n*i - l*j of a place decides which bit may follow it, and is carried along by sums.
 -- Assumes nothing.
 use Prim.Native.Nat.{ℕ, zero, suc, _+_, _*_, _≤_, _<_}
-use native.Mathlib.Nat.{mul-suc, mul-zero}
+use native.Mathlib.Nat.{mul-suc, mul-zero, mul-one, add-zero, zero-add, add-suc, suc-add}
 use native.Mathlib.Omega.{arith}
 use mathlib.Core.Path.{_≡_, refl, ap, ap₂}
 use mathlib.Core.Bool.{Bool, true, false, _&&_}
-use mathlib.Core.List.{List, _∷_}
+use mathlib.Core.List.{List, [], _∷_}
+use lib.ListN.{length}
 use lib.IntN.{ℤ, pos, _+ℤ_, _-ℤ_}
 use lib.Signed.{leZ}
 use Rattle.whole.proofs.Bridge.{up, down, sum, diff, up-neg, down-neg, whole-ext, leZ-true, ≤ℤ-shows, up-most, down-most, up-sum-le, down-sum-le, up-diff-le, down-diff-le, sfits-small}
+use Rattle.whole.specs.Order.{smaller}
 use Rattle.envelope.specs.declared.Envelope.{Envelope}
 use Rattle.envelope.specs.Envelope.{Taken}
 use Rattle.envelope.specs.Limits.{lMost}
+use Rattle.envelope.proofs.Held.{n-small, K-up, K-down}
 use mir.Syntax.{w64}
 use mir.Val.{SFits, toZ, ofZ}
 use mir.Facts.{toZ-ofZ}
-use Rattle.envelope.proofs.Held.{n-small}
-use Rattle.pattern.specs.declared.Mark.{Mark}
 use Rattle.pattern.specs.Step.{low, high, oneMay, zeroMay}
 use Rattle.pattern.specs.Pattern.{longest, after, may, least, fill}
-use Rattle.pattern.specs.Scan.{Near, oneAt, zeroAt, mayAt, onward, filled, marked}
+use Rattle.pattern.specs.Scan.{Near, oneAt, zeroAt, mayAt, stepOf, onward, filled, reached, leastWith}
 use Rattle.pattern.proofs.Edges.{leZ-false}
 
 -- two tests of whole numbers that say the same
@@ -46,7 +47,7 @@ module _ (e : Envelope) where
       (omega (arith, diff (pos (e .n * i)) (pos (e .l * j)), diff (pos (e .n * suc i)) (pos (e .l * j)), sum (offsetOf i j) (pos (e .n)), mul-suc (e .n) i))
   onward-is i j (suc b) =
       whole-ext
-      (omega (arith, diff (pos (e .n * i)) (pos (e .l * j)), diff (pos (e .n * suc i)) (pos (e .l * suc j)), sum (offsetOf i j) (pos (e .n)), diff (offsetOf i j +ℤ pos (e .n)) (pos (e .l)), mul-suc (e .n) i, mul-suc (e .l) j))
+      (omega (arith, diff (pos (e .n * i)) (pos (e .l * j)), diff (pos (e .n * suc i)) (pos (e .l * suc j)), sum (offsetOf i j) (stepOf e 1), diff (pos (e .n)) (pos (e .l)), mul-suc (e .n) i, mul-suc (e .l) j))
 
   pub one-is : (i j : ℕ) → oneMay e i j ≡ oneAt e (offsetOf i j)
   unfolding oneMay low high oneAt
@@ -78,6 +79,14 @@ module _ (e : Envelope) where
       let b : ℕ = least (zeroMay e) (oneMay e) i j in
       rw (← zero-is i j, onward-is i j b) (ap (λ (r : List ℕ). b ∷ r) (filled-is m (suc i) (after j b)))
 
+-- a 0 may follow, as the code tests it
+pub zero-by-room : (e : Envelope) (d : ℤ) → leZ d (e .K -ℤ pos (e .n)) ≡ zeroAt e d
+unfolding zeroAt
+zero-by-room e d =
+    let s = sum d (pos (e .n)) in
+    let t = diff (e .K) (pos (e .n)) in
+    leZ-same d (e .K -ℤ pos (e .n)) (d +ℤ pos (e .n)) (e .K) (λ h. omega (arith, s, t)) (λ h. omega (arith, s, t))
+
 -- ---- how far an offset is from 0
 pub near-start : Near 0 (pos 0)
 near-start = record { not-below = ≤ℤ-shows (omega (arith, up-neg (pos (lMost * 0)), down-neg (pos (lMost * 0)))); not-above = ≤ℤ-shows (omega arith) }
@@ -96,45 +105,78 @@ near-shows i d h k =
 pub near-more : (i m : ℕ) (d : ℤ) → i ≤ m → Near i d → Near m d
 near-more i m d h v = let r = near-reads i d v in near-shows m d (omega arith) (omega arith)
 
+-- a step is at most this long
+step-near : (e : Envelope) → Taken e → (b : ℕ) → (up (stepOf e b) ≤ lMost) × (down (stepOf e b) ≤ lMost)
+step-near e t zero = (omega (arith, t .n-most, t .limits .l-most), omega arith)
+step-near e t (suc b) = (
+  omega (arith, up-diff-le (pos (e .n)) (pos (e .l)), t .n-most, t .limits .l-most),
+  omega (arith, down-diff-le (pos (e .n)) (pos (e .l)), t .limits .l-most),
+)
+
 pub near-on : (e : Envelope) → Taken e → (i : ℕ) (d : ℤ) (b : ℕ) → Near i d → Near (suc i) (onward e d b)
-near-on e t i d zero v =
+near-on e t i d b v =
     let r = near-reads i d v in
-    near-shows (suc i) (d +ℤ pos (e .n))
-    (omega (arith, up-sum-le d (pos (e .n)), t .n-most, t .limits .l-most))
-    (omega (arith, down-sum-le d (pos (e .n))))
-near-on e t i d (suc b) v =
-    let r = near-reads i d v in
-    let s : ℤ = d +ℤ pos (e .n) in
-    near-shows (suc i) (s -ℤ pos (e .l))
-    (omega (arith, up-diff-le s (pos (e .l)), up-sum-le d (pos (e .n)), t .n-most, t .limits .l-most))
-    (omega (arith, down-diff-le s (pos (e .l)), down-sum-le d (pos (e .n)), t .limits .l-most))
+    let s = step-near e t b in
+    near-shows (suc i) (onward e d b)
+    (omega (arith, up-sum-le d (stepOf e b)))
+    (omega (arith, down-sum-le d (stepOf e b)))
+
+near-from : (e : Envelope) → Taken e → (p : List ℕ) (i : ℕ) (d : ℤ) → Near i d → Near (i + length p) (reached e d p)
+near-from e t [] i d v = rw add-zero v
+near-from e t (b ∷ p) i d v = rw (add-suc, ← suc-add) (near-from e t p (suc i) (onward e d b) (near-on e t i d b v))
+
+pub near-reached : (e : Envelope) → Taken e → (p : List ℕ) → Near (length p) (reached e (pos 0) p)
+near-reached e t p = rw zero-add at (near-from e t p 0 (pos 0) near-start)
 
 -- ---- what the machine holds of an offset, and of the code's sums
 pub near-held : (i : ℕ) (d : ℤ) → i ≤ longest → Near i d → toZ w64 (ofZ w64 d) ≡ d
 near-held i d h v = let r = near-reads i d v in toZ-ofZ (sfits-small (omega arith))
 
 module _ (e : Envelope) (t : Taken e) (d : ℤ) (v : Near longest d) where
-  pub sum-fits : SFits w64 (d +ℤ pos (e .n))
-  sum-fits =
+  pub on-fits : (b : ℕ) → SFits w64 (onward e d b)
+  on-fits b =
       let r = near-reads longest d v in
-      sfits-small (omega (arith, up-sum-le d (pos (e .n)), down-sum-le d (pos (e .n)), n-small e t))
+      let s = step-near e t b in
+      sfits-small (omega (arith, up-sum-le d (stepOf e b), down-sum-le d (stepOf e b)))
 
-  pub gap-fits : SFits w64 (d +ℤ pos (e .n) -ℤ pos (e .l))
-  gap-fits =
+  pub back-fits : (b : ℕ) → SFits w64 (d -ℤ stepOf e b)
+  back-fits b =
       let r = near-reads longest d v in
-      let s : ℤ = d +ℤ pos (e .n) in
-      sfits-small
-      (omega (arith, up-diff-le s (pos (e .l)), down-diff-le s (pos (e .l)), up-sum-le d (pos (e .n)), down-sum-le d (pos (e .n)), n-small e t, t .limits .l-most))
+      let s = step-near e t b in
+      sfits-small (omega (arith, up-diff-le d (stepOf e b), down-diff-le d (stepOf e b)))
+
+pub room-fits : (e : Envelope) → Taken e → SFits w64 (e .K -ℤ pos (e .n))
+room-fits e t =
+    sfits-small
+    (omega (arith, up-diff-le (e .K) (pos (e .n)), down-diff-le (e .K) (pos (e .n)), n-small e t, K-up e (t .limits), K-down e (t .limits)))
+
+pub step-fits : (e : Envelope) → Taken e → (b : ℕ) → SFits w64 (stepOf e b)
+step-fits e t b = let s = step-near e t b in sfits-small (omega arith)
+
+-- l times a bit
+pub product-most : (e : Envelope) → Taken e → (b : ℕ) → b ≤ 1 → e .l * b ≤ lMost
+product-most e t zero h = omega (arith, mul-zero (e .l))
+product-most e t (suc zero) h = omega (arith, mul-one (e .l), t .limits .l-most)
+product-most e t (suc (suc b)) h = absurd (omega arith)
+
+pub step-is : (e : Envelope) (b : ℕ) → b ≤ 1 → pos (e .n) -ℤ pos (e .l * b) ≡ stepOf e b
+step-is e zero h = whole-ext (omega (arith, diff (pos (e .n)) (pos (e .l * 0)), mul-zero (e .l)))
+step-is e (suc zero) h = ap (λ (k : ℕ). pos (e .n) -ℤ pos k) (mul-one (e .l))
+step-is e (suc (suc b)) h = absurd (omega arith)
+
+-- a step back and the same step on
+pub back-on : (e : Envelope) (d : ℤ) (b : ℕ) → onward e (d -ℤ stepOf e b) b ≡ d
+back-on e d b = whole-ext (omega (arith, sum (d -ℤ stepOf e b) (stepOf e b), diff d (stepOf e b)))
+
+pub on-injective : (e : Envelope) (x y : ℤ) (b : ℕ) → onward e x b ≡ onward e y b → x ≡ y
+on-injective e x y b q =
+    whole-ext (omega (arith, sum x (stepOf e b), sum y (stepOf e b), ap up q, ap down q))
 
 -- ---- of a byte that is not 0
-pub onward-one : (e : Envelope) (d : ℤ) (b : ℕ) → 0 < b → onward e d b ≡ d +ℤ pos (e .n) -ℤ pos (e .l)
-onward-one e d zero h = absurd (omega arith)
-onward-one e d (suc b) h = refl
-
 pub may-one : (e : Envelope) (d : ℤ) (b : ℕ) → 0 < b → mayAt e d b ≡ oneAt e d
 may-one e d zero h = absurd (omega arith)
 may-one e d (suc b) h = refl
 
-pub mark-kept : (e : Envelope) (i : ℕ) (d : ℤ) (m : Mark) (b : ℕ) → 0 < b → m ≡ marked e i d m b
-mark-kept e i d m zero h = absurd (omega arith)
-mark-kept e i d m (suc b) h = refl
+pub least-one : (m d : ℤ) (b : ℕ) → 0 < b → leastWith m d b ≡ smaller d m
+least-one m d zero h = absurd (omega arith)
+least-one m d (suc b) h = refl

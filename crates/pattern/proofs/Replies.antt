@@ -28,7 +28,7 @@ use Rattle.pattern.specs.declared.Judged.the-variants.{Sound, Unsound}
 use Rattle.pattern.specs.Step.{oneMay, zeroMay}
 use Rattle.pattern.specs.Pattern.{longest, after, may, passed, next, raised, plain}
 use Rattle.pattern.specs.Answer.{isFine, stepsOf, nextOf, checkAnswer}
-use Rattle.pattern.specs.Scan.{Near, oneAt, onward, filled, marked, unmarked, scanned, judged}
+use Rattle.pattern.specs.Scan.{Near, oneAt, onward, filled, reached, marked, unmarked, lastMark, markOf, scanned, judged}
 use Rattle.pattern.proofs.Binary.{Bits}
 use Rattle.pattern.proofs.Offsets.{offsetOf, offset-start, onward-is, one-is, may-is, filled-is, near-start, near-on}
 
@@ -71,15 +71,10 @@ module _ (e : Envelope) where
   abbrev o : ℕ → ℕ → Bool
   o = oneMay e
 
-  -- the mark at the end of p, where m is the mark at place i and d the offset there
-  abbrev pub lastMark : ℕ → ℤ → Mark → List ℕ → Mark
-  lastMark i d m [] = m
-  lastMark i d m (b ∷ p) = lastMark (suc i) (onward e d b) (marked e i d m b) p
-
-  -- the scan stops at the first forbidden step, or has the last mark
-  scan-is : (p : List ℕ) (i j : ℕ) (m : Mark) → Bits p → scanned e i (offsetOf e i j) m p ≡ cond (ltb (passed z o i j p) (length p)) (Unsound outside (i + passed z o i j p)) (Sound (lastMark i (offsetOf e i j) m p))
-  scan-is [] i j m h = refl
-  scan-is (b ∷ p) i j m h = go (may z o i j b) refl (scan-is p (suc i) (after j b) (marked e i (offsetOf e i j) m b) (h .1))
+  -- the scan stops at the first forbidden step, or has the offset past the end
+  scan-is : (p : List ℕ) (i j : ℕ) → Bits p → scanned e i (offsetOf e i j) p ≡ cond (ltb (passed z o i j p) (length p)) (Unsound outside (i + passed z o i j p)) (Sound (reached e (offsetOf e i j) p))
+  scan-is [] i j h = refl
+  scan-is (b ∷ p) i j h = go (may z o i j b) refl (scan-is p (suc i) (after j b) (h .1))
     where
       d : ℤ
       d = offsetOf e i j
@@ -87,7 +82,7 @@ module _ (e : Envelope) where
       k : ℕ
       k = passed z o (suc i) (after j b) p
 
-      go : (t : Bool) → may z o i j b ≡ t → scanned e (suc i) (offsetOf e (suc i) (after j b)) (marked e i d m b) p ≡ cond (ltb k (length p)) (Unsound outside (suc i + k)) (Sound (lastMark (suc i) (offsetOf e (suc i) (after j b)) (marked e i d m b) p)) → scanned e i d m (b ∷ p) ≡ cond (ltb (passed z o i j (b ∷ p)) (length (b ∷ p))) (Unsound outside (i + passed z o i j (b ∷ p))) (Sound (lastMark i d m (b ∷ p)))
+      go : (t : Bool) → may z o i j b ≡ t → scanned e (suc i) (offsetOf e (suc i) (after j b)) p ≡ cond (ltb k (length p)) (Unsound outside (suc i + k)) (Sound (reached e (offsetOf e (suc i) (after j b)) p)) → scanned e i d (b ∷ p) ≡ cond (ltb (passed z o i j (b ∷ p)) (length (b ∷ p))) (Unsound outside (i + passed z o i j (b ∷ p))) (Sound (reached e d (b ∷ p)))
       go true q ih = rw (← may-is e i j b (h .0), q, onward-is e i j b, leb·suc-suc (suc k) (length p), add-suc i k, ← suc-add i k) ih
       go false q ih = rw (← may-is e i j b (h .0), q, leb·suc-suc 0 (length p), leb·zero, add-zero)
 
@@ -100,7 +95,7 @@ module _ (e : Envelope) where
   front pre none other = other
   front pre (some q) other = some (pre ++ q)
 
-  from-last : (p pre : List ℕ) (i j : ℕ) (m : Mark) → length pre ≡ i → fromMark (pre ++ p) (lastMark i (offsetOf e i j) m p .place) (lastMark i (offsetOf e i j) m p .offset) ≡ front pre (next z o i j p) (fromMark (pre ++ p) (m .place) (m .offset))
+  from-last : (p pre : List ℕ) (i j : ℕ) (m : Mark) → length pre ≡ i → fromMark (pre ++ p) (lastMark e i (offsetOf e i j) m p .place) (lastMark e i (offsetOf e i j) m p .offset) ≡ front pre (next z o i j p) (fromMark (pre ++ p) (m .place) (m .offset))
   from-last [] pre i j m h = refl
   from-last (b ∷ p) pre i j m h =
       go (next z o (suc i) (after j b) p) refl
@@ -113,10 +108,10 @@ module _ (e : Envelope) where
       d = offsetOf e i j
 
       end : Mark
-      end = lastMark (suc i) (offsetOf e (suc i) (after j b)) (marked e i d m b) p
+      end = lastMark e (suc i) (offsetOf e (suc i) (after j b)) (marked e i d m b) p
 
-      same : lastMark i d m (b ∷ p) ≡ end
-      same = ap (λ (x : ℤ). lastMark (suc i) x (marked e i d m b) p) (onward-is e i j b)
+      same : lastMark e i d m (b ∷ p) ≡ end
+      same = ap (λ (x : ℤ). lastMark e (suc i) x (marked e i d m b) p) (onward-is e i j b)
 
       raise : (c : ℕ) (t : Bool) → o i j ≡ t → fromMark w (marked e i d m c .place) (marked e i d m c .offset) ≡ front pre (raised z o i j c (length p)) (fromMark w (m .place) (m .offset))
       raise zero true q =
@@ -125,17 +120,13 @@ module _ (e : Envelope) where
       raise zero false q = rw (← one-is e i j, q)
       raise (suc c) t q = refl
 
-      go : (r : Option (List ℕ)) → next z o (suc i) (after j b) p ≡ r → fromMark w (end .place) (end .offset) ≡ front (pre ++ (b ∷ [])) (next z o (suc i) (after j b) p) (fromMark w (marked e i d m b .place) (marked e i d m b .offset)) → fromMark w (lastMark i d m (b ∷ p) .place) (lastMark i d m (b ∷ p) .offset) ≡ front pre (next z o i j (b ∷ p)) (fromMark w (m .place) (m .offset))
+      go : (r : Option (List ℕ)) → next z o (suc i) (after j b) p ≡ r → fromMark w (end .place) (end .offset) ≡ front (pre ++ (b ∷ [])) (next z o (suc i) (after j b) p) (fromMark w (marked e i d m b .place) (marked e i d m b .offset)) → fromMark w (lastMark e i d m (b ∷ p) .place) (lastMark e i d m (b ∷ p) .offset) ≡ front pre (next z o i j (b ∷ p)) (fromMark w (m .place) (m .offset))
       go none q ih = rw (same, q) ((rw q at ih) ∙ raise b (o i j) refl)
       go (some r) q ih = rw (same, q) ((rw q at ih) ∙ ap {B = Option (List ℕ)} some (append-snoc pre b r))
 
-  -- the mark at the end of a pattern
-  abbrev pub markOf : List ℕ → Mark
-  markOf p = lastMark 0 (pos 0) unmarked p
-
-  pub next-mark : (p : List ℕ) → fromMark p (markOf p .place) (markOf p .offset) ≡ nextOf e p
+  pub next-mark : (p : List ℕ) → fromMark p (markOf e p .place) (markOf e p .offset) ≡ nextOf e p
   next-mark p =
-      subst (λ (d : ℤ). fromMark p (lastMark 0 d unmarked p .place) (lastMark 0 d unmarked p .offset) ≡ nextOf e p) (offset-start e)
+      subst (λ (d : ℤ). fromMark p (lastMark e 0 d unmarked p .place) (lastMark e 0 d unmarked p .offset) ≡ nextOf e p) (offset-start e)
       (from-last p [] 0 0 unmarked refl ∙ go (nextOf e p))
     where
       go : (r : Option (List ℕ)) → front [] r none ≡ r
@@ -156,60 +147,62 @@ module _ (e : Envelope) where
         go false q = rw q (record { within = (let f = s .within in omega arith); near = s .near })
     sane-step i d m (suc b) v s = record { within = (let f = s .within in omega arith); near = s .near }
 
-    sane-last : (p : List ℕ) (i : ℕ) (d : ℤ) (m : Mark) → Near i d → Sane i m → Sane (i + length p) (lastMark i d m p)
+    sane-last : (p : List ℕ) (i : ℕ) (d : ℤ) (m : Mark) → Near i d → Sane i m → Sane (i + length p) (lastMark e i d m p)
     sane-last [] i d m v s = rw add-zero s
     sane-last (b ∷ p) i d m v s =
         rw (add-suc, ← suc-add) (sane-last p (suc i) (onward e d b) (marked e i d m b) (near-on e t i d b v) (sane-step i d m b v s))
 
-    pub sane : (p : List ℕ) → Sane (length p) (markOf p)
+    pub sane : (p : List ℕ) → Sane (length p) (markOf e p)
     sane p =
         rw zero-add at (sane-last p 0 (pos 0) unmarked near-start (record { within = omega arith; near = λ u h. absurd (omega arith) }))
 
   -- ---- what is judged, as an answer
   abbrev pub answerOf : Judged → Answer
-  answerOf (Sound m) = Inside
+  answerOf (Sound end) = Inside
   answerOf (Unsound number place) = Refused number place
 
-  whole-scan : (p : List ℕ) → Bits p → scanned e 0 (pos 0) unmarked p ≡ cond (ltb (stepsOf e p) (length p)) (Unsound outside (stepsOf e p)) (Sound (markOf p))
+  whole-scan : (p : List ℕ) → Bits p → scanned e 0 (pos 0) p ≡ cond (ltb (stepsOf e p) (length p)) (Unsound outside (stepsOf e p)) (Sound (reached e (pos 0) p))
   whole-scan p h =
-      subst (λ (d : ℤ). scanned e 0 d unmarked p ≡ cond (ltb (stepsOf e p) (length p)) (Unsound outside (stepsOf e p)) (Sound (lastMark 0 d unmarked p))) (offset-start e)
-      (rw zero-add at (scan-is p 0 0 unmarked h))
+      subst (λ (d : ℤ). scanned e 0 d p ≡ cond (ltb (stepsOf e p) (length p)) (Unsound outside (stepsOf e p)) (Sound (reached e d p))) (offset-start e)
+      (rw zero-add at (scan-is p 0 0 h))
 
   pub judged-check : (p : List ℕ) → answerOf (judged e p) ≡ checkAnswer e p
   unfolding judged checkAnswer
   judged-check p = go (isFine (standingOf e)) (ltb longest (length p)) (ltb (plain p) (length p)) refl
     where
-      steps : (c : Bool) → answerOf (cond c (Unsound outside (stepsOf e p)) (Sound (markOf p))) ≡ cond c (Refused outside (stepsOf e p)) Inside
+      steps : (c : Bool) → answerOf (cond c (Unsound outside (stepsOf e p)) (Sound (reached e (pos 0) p))) ≡ cond c (Refused outside (stepsOf e p)) Inside
       steps true = refl
       steps false = refl
 
-      go : (a b c : Bool) → ltb (plain p) (length p) ≡ c → answerOf (cond a (cond b (Unsound longPattern 0) (cond c (Unsound notABit (plain p)) (scanned e 0 (pos 0) unmarked p))) (Unsound noEnvelope 0)) ≡ cond a (cond b (Refused longPattern 0) (cond c (Refused notABit (plain p)) (cond (ltb (stepsOf e p) (length p)) (Refused outside (stepsOf e p)) Inside))) (Refused noEnvelope 0)
+      go : (a b c : Bool) → ltb (plain p) (length p) ≡ c → answerOf (cond a (cond b (Unsound longPattern 0) (cond c (Unsound notABit (plain p)) (scanned e 0 (pos 0) p))) (Unsound noEnvelope 0)) ≡ cond a (cond b (Refused longPattern 0) (cond c (Refused notABit (plain p)) (cond (ltb (stepsOf e p) (length p)) (Refused outside (stepsOf e p)) Inside))) (Refused noEnvelope 0)
       go true true c q = refl
       go true false true q = refl
       go true false false q = ap answerOf (whole-scan p (bits-of p (ltb-false (plain p) (length p) q))) ∙ steps (ltb (stepsOf e p) (length p))
       go false b c q = refl
 
   -- a pattern that passes
-  pub record Passes (p : List ℕ) (m : Mark) : Type 0 where
+  pub record Passes (p : List ℕ) (end : ℤ) : Type 0 where
     pub taken : Taken e
     pub short : length p ≤ longest
-    pub is-last : m ≡ markOf p
+    pub all-bits : length p ≤ plain p
+    pub is-end : end ≡ reached e (pos 0) p
 
-  pub sound-is : (p : List ℕ) (m : Mark) → Sound m ≡ judged e p → Passes p m
+  pub sound-is : (p : List ℕ) (end : ℤ) → Sound end ≡ judged e p → Passes p end
   unfolding judged
-  sound-is p m h = go (isFine (standingOf e)) (ltb longest (length p)) (ltb (plain p) (length p)) refl refl refl h
+  sound-is p end h = go (isFine (standingOf e)) (ltb longest (length p)) (ltb (plain p) (length p)) refl refl refl h
     where
-      steps : (c : Bool) → Sound m ≡ cond c (Unsound outside (stepsOf e p)) (Sound (markOf p)) → m ≡ markOf p
+      steps : (c : Bool) → Sound end ≡ cond c (Unsound outside (stepsOf e p)) (Sound (reached e (pos 0) p)) → end ≡ reached e (pos 0) p
       steps true q = let w : _≡_ {A = ℕ} 0 1 = cc in absurd (omega arith)
       steps false q = cc
 
-      go : (a b c : Bool) → isFine (standingOf e) ≡ a → ltb longest (length p) ≡ b → ltb (plain p) (length p) ≡ c → Sound m ≡ cond a (cond b (Unsound longPattern 0) (cond c (Unsound notABit (plain p)) (scanned e 0 (pos 0) unmarked p))) (Unsound noEnvelope 0) → Passes p m
+      go : (a b c : Bool) → isFine (standingOf e) ≡ a → ltb longest (length p) ≡ b → ltb (plain p) (length p) ≡ c → Sound end ≡ cond a (cond b (Unsound longPattern 0) (cond c (Unsound notABit (plain p)) (scanned e 0 (pos 0) p))) (Unsound noEnvelope 0) → Passes p end
       go true true c ea eb ec q = let w : _≡_ {A = ℕ} 0 1 = cc in absurd (omega arith)
       go true false true ea eb ec q = let w : _≡_ {A = ℕ} 0 1 = cc in absurd (omega arith)
       go true false false ea eb ec q =
           record {
             taken = is-taken e ea;
             short = ltb-false longest (length p) eb;
-            is-last = steps (ltb (stepsOf e p) (length p)) (q ∙ whole-scan p (bits-of p (ltb-false (plain p) (length p) ec)));
+            all-bits = ltb-false (plain p) (length p) ec;
+            is-end = steps (ltb (stepsOf e p) (length p)) (q ∙ whole-scan p (bits-of p (ltb-false (plain p) (length p) ec)));
           }
       go false b c ea eb ec q = let w : _≡_ {A = ℕ} 0 1 = cc in absurd (omega arith)

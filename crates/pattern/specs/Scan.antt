@@ -7,10 +7,12 @@ use lib.Signed.{leZ, _≤ℤ_}
 use lib.ListN.{length}
 use lib.Dec.{ltb}
 use Rattle.reply.specs.Numbers.{noEnvelope, longPattern, notABit, outside}
+use Rattle.whole.specs.Order.{larger, smaller}
 use Rattle.envelope.specs.declared.Envelope.{Envelope}
 use Rattle.envelope.specs.Limits.{lMost}
 use Rattle.envelope.specs.Standing.{standingOf}
 use Rattle.pattern.specs.declared.Mark.{Mark}
+use Rattle.pattern.specs.declared.Swept.{Swept}
 use Rattle.pattern.specs.declared.Judged.{Judged}
 use Rattle.pattern.specs.declared.Judged.the-variants.{Sound, Unsound}
 use Rattle.pattern.specs.Pattern.{longest, plain}
@@ -34,10 +36,14 @@ abbrev pub mayAt : Envelope → ℤ → ℕ → Bool
 mayAt e d zero = zeroAt e d
 mayAt e d (suc b) = oneAt e d
 
+-- what the bit b adds to the offset
+abbrev pub stepOf : Envelope → ℕ → ℤ
+stepOf e zero = pos (e .n)
+stepOf e (suc b) = pos (e .n) -ℤ pos (e .l)
+
 -- the offset after the bit b
 abbrev pub onward : Envelope → ℤ → ℕ → ℤ
-onward e d zero = d +ℤ pos (e .n)
-onward e d (suc b) = d +ℤ pos (e .n) -ℤ pos (e .l)
+onward e d b = d +ℤ stepOf e b
 
 -- the smaller bit that may follow, where one may
 abbrev pub leastAt : Envelope → ℤ → ℕ
@@ -48,6 +54,26 @@ abbrev pub filled : Envelope → ℤ → ℕ → List ℕ
 filled e d zero = []
 filled e d (suc m) = leastAt e d ∷ filled e (onward e d (leastAt e d)) m
 
+-- the offset past some bits, where d is that before them
+abbrev pub reached : Envelope → ℤ → List ℕ → ℤ
+reached e d [] = d
+reached e d (b ∷ p) = reached e (onward e d b) p
+
+-- from place i on: the first forbidden step, or the offset past the end
+abbrev pub scanned : Envelope → ℕ → ℤ → List ℕ → Judged
+scanned e i d [] = Sound d
+scanned e i d (b ∷ p) = cond (mayAt e d b) (scanned e (suc i) (onward e d b) p) (Unsound outside i)
+
+-- the smallest offset at a 1: m so far, then the bit b at d
+abbrev pub leastWith : ℤ → ℤ → ℕ → ℤ
+leastWith m d zero = m
+leastWith m d (suc b) = smaller d m
+
+-- the smallest offset at a 1, the largest past a bit and the last, from d on
+abbrev pub sweptFrom : Envelope → ℤ → ℤ → ℤ → List ℕ → Swept
+sweptFrom e least most d [] = record { least = least; most = most; end = d }
+sweptFrom e least most d (b ∷ p) = sweptFrom e (leastWith least d b) (larger most (onward e d b)) (onward e d b) p
+
 -- the last 0 that could be a 1: its place, plus one, and the offset there; with the bit b at i
 abbrev pub marked : Envelope → ℕ → ℤ → Mark → ℕ → Mark
 marked e i d m zero = cond (oneAt e d) (record { place = suc i; offset = d }) m
@@ -56,22 +82,24 @@ marked e i d m (suc b) = m
 abbrev pub unmarked : Mark
 unmarked = record { place = 0; offset = pos 0 }
 
--- from place i on: the first forbidden step, or the last mark
-abbrev pub scanned : Envelope → ℕ → ℤ → Mark → List ℕ → Judged
-scanned e i d m [] = Sound m
-scanned e i d m (b ∷ p) =
-    cond (mayAt e d b) (scanned e (suc i) (onward e d b) (marked e i d m b) p) (Unsound outside i)
+-- the mark past some bits, where m is that at place i
+abbrev pub lastMark : Envelope → ℕ → ℤ → Mark → List ℕ → Mark
+lastMark e i d m [] = m
+lastMark e i d m (b ∷ p) = lastMark e (suc i) (onward e d b) (marked e i d m b) p
+
+abbrev pub markOf : Envelope → List ℕ → Mark
+markOf e p = lastMark e 0 (pos 0) unmarked p
 
 -- the largest of m and of some bytes
 abbrev pub largestFrom : ℕ → List ℕ → ℕ
 largestFrom m [] = m
 largestFrom m (b ∷ p) = largestFrom (cond (ltb m b) b m) p
 
--- 12 to 15, or the last mark
+-- 12 to 15, or the offset past the end
 unfoldable pub judged : Envelope → List ℕ → Judged
 judged e p =
     cond (isFine (standingOf e))
     (cond (ltb longest (length p)) (Unsound longPattern 0)
     (cond (ltb (plain p) (length p)) (Unsound notABit (plain p))
-    (scanned e 0 (pos 0) unmarked p)))
+    (scanned e 0 (pos 0) p)))
     (Unsound noEnvelope 0)

@@ -8,7 +8,7 @@ ghost use Rattle.envelope.specs.Envelope.{Taken};
 ghost use Rattle.envelope.specs.Standing.{standingOf};
 ghost use Rattle.pattern.specs.Pattern.{longest, plain};
 ghost use Rattle.pattern.specs.Answer.{given, isFine, checkAnswer, firstAnswer, firstBytes, nextAnswer, nextBytes};
-ghost use Rattle.pattern.specs.Scan.{Near, oneAt, zeroAt, mayAt, onward, leastAt, filled, marked, unmarked, scanned, largestFrom, judged};
+ghost use Rattle.pattern.specs.Scan.{Near, oneAt, zeroAt, mayAt, stepOf, onward, leastAt, filled, reached, scanned, leastWith, sweptFrom, markOf, largestFrom, judged};
 use envelope::Envelope;
 use envelope::Standing;
 
@@ -29,9 +29,16 @@ struct Mark {
     offset: i64,
 }
 
-// A pattern that is inside, with its mark, or a refusal's number and place.
+// What a pass with no way out finds: the smallest n*i - l*j at a 1, the largest past a bit, and the last.
+struct Swept {
+    least: i64,
+    most: i64,
+    end: i64,
+}
+
+// n*i - l*j past a pattern that is inside, or a refusal's number and place.
 enum Judged {
-    Sound(Mark),
+    Sound(i64),
     Unsound(u8, usize),
 }
 
@@ -48,7 +55,7 @@ fn zero_at(e: Envelope, d: i64) -> bool
     requires { ⌜ Taken e × Near longest d ⌝ }
     ensures { λ r. ⌜ r ≡ zeroAt e d ⌝ }
 {
-    d + (e.n as i64) <= e.K
+    d <= e.K - (e.n as i64)
 }
 
 // Whether the bit b may follow there.
@@ -59,14 +66,28 @@ fn may_follow(e: Envelope, d: i64, b: u8) -> bool
     if b == 0 { zero_at(e, d) } else { one_at(e, d) }
 }
 
+// What the bit b adds to n*i - l*j: a product takes no branch.
+fn step(e: Envelope, b: u8) -> i64
+    requires { ⌜ Taken e × (b ≤ 1) ⌝ }
+    ensures { λ r. ⌜ r ≡ stepOf e b ⌝ }
+{
+    e.n as i64 - (e.l * (b as u64)) as i64
+}
+
 // n*i - l*j after the bit b.
 fn moved_on(e: Envelope, d: i64, b: u8) -> i64
-    requires { ⌜ Taken e × Near longest d ⌝ }
+    requires { ⌜ Taken e × Near longest d × (b ≤ 1) ⌝ }
     ensures { λ r. ⌜ r ≡ onward e d b ⌝ }
 {
-    let n = e.n as i64;
-    let l = e.l as i64;
-    if b == 0 { d + n } else { d + n - l }
+    d + step(e, b)
+}
+
+// n*i - l*j before the bit b, where it is d after it.
+fn moved_back(e: Envelope, d: i64, b: u8) -> i64
+    requires { ⌜ Taken e × Near longest d × (b ≤ 1) ⌝ }
+    ensures { λ r. ⌜ onward e r b ≡ d ⌝ }
+{
+    d - step(e, b)
 }
 
 // The smaller bit that may follow.
@@ -77,32 +98,45 @@ fn least_at(e: Envelope, d: i64) -> u8
     if zero_at(e, d) { 0 } else { 1 }
 }
 
-// The mark, with the bit b at i.
-fn mark_at(e: Envelope, i: usize, d: i64, m: Mark, b: u8) -> Mark
-    requires { ⌜ Taken e × (i < longest) ⌝ }
-    ensures { λ r. ⌜ r ≡ marked e i d m b ⌝ }
+// The smallest n*i - l*j at a 1, with the bit b where it is d.
+fn least_with(least: i64, d: i64, b: u8) -> i64
+    ensures { λ r. ⌜ r ≡ leastWith least d b ⌝ }
 {
-    if b != 0 {
-        return m;
+    if b == 0 {
+        least
+    } else {
+        whole::smaller_of(d, least)
     }
-    if one_at(e, d) {
-        return Mark {
-            place: i + 1,
-            offset: d,
-        };
-    }
-    m
 }
 
-// One pass: the first forbidden step, or the mark.
-fn scan(e: Envelope, pattern: &[u8]) -> Judged
-    requires { ⌜ Taken e × (length (now pattern) ≤ longest) ⌝ }
-    ensures { λ r. ⌜ r ≡ scanned e 0 (pos 0) unmarked (now (pattern .entry)) ⌝ }
+// A pass of the same work for all bits, so that none is guessed.
+fn sweep(e: Envelope, pattern: &[u8]) -> Swept
+    requires { ⌜ Taken e × (length (now pattern) ≤ longest) × (length (now pattern) ≤ plain (now pattern)) ⌝ }
+    ensures { λ r. ⌜ r ≡ sweptFrom e (e .K) (pos 0) (pos 0) (now (pattern .entry)) ⌝ }
 {
-    let mut m = Mark {
-        place: 0,
-        offset: 0,
-    };
+    let mut least: i64 = e.K;
+    let mut most: i64 = 0;
+    let mut d: i64 = 0;
+    let mut i = 0;
+    while i < pattern.len() {
+        let b = pattern[i];
+        least = least_with(least, d, b);
+        d = moved_on(e, d, b);
+        most = whole::larger_of(most, d);
+        i += 1;
+    }
+    Swept {
+        least,
+        most,
+        end: d,
+    }
+}
+
+// One pass: the first forbidden step, or n*i - l*j past the end.
+fn scan(e: Envelope, pattern: &[u8]) -> Judged
+    requires { ⌜ Taken e × (length (now pattern) ≤ longest) × (length (now pattern) ≤ plain (now pattern)) ⌝ }
+    ensures { λ r. ⌜ r ≡ scanned e 0 (pos 0) (now (pattern .entry)) ⌝ }
+{
     let mut d: i64 = 0;
     let mut i = 0;
     while i < pattern.len() {
@@ -110,11 +144,51 @@ fn scan(e: Envelope, pattern: &[u8]) -> Judged
         if !may_follow(e, d, b) {
             return Judged::Unsound(reply::OUTSIDE, i);
         }
-        m = mark_at(e, i, d, m, b);
         d = moved_on(e, d, b);
         i += 1;
     }
-    Judged::Sound(m)
+    Judged::Sound(d)
+}
+
+// The same, by a sweep where the pattern is inside.
+fn sweep_or_scan(e: Envelope, pattern: &[u8]) -> Judged
+    requires { ⌜ Taken e × (length (now pattern) ≤ longest) × (length (now pattern) ≤ plain (now pattern)) ⌝ }
+    ensures { λ r. ⌜ r ≡ scanned e 0 (pos 0) (now (pattern .entry)) ⌝ }
+{
+    let s = sweep(e, pattern);
+    if e.k <= s.least {
+        if s.most <= e.K {
+            return Judged::Sound(s.end);
+        }
+    }
+    scan(e, pattern)
+}
+
+// The mark, looked for from the end: a walk turns bits near it.
+fn last_mark(e: Envelope, pattern: &[u8], end: i64) -> Mark
+    requires { ⌜ Taken e × (length (now pattern) ≤ longest) × (length (now pattern) ≤ plain (now pattern)) ⌝ }
+    requires { ⌜ end ≡ reached e (pos 0) (now pattern) ⌝ }
+    ensures { λ r. ⌜ r ≡ markOf e (now (pattern .entry)) ⌝ }
+{
+    let mut d = end;
+    let mut i = pattern.len();
+    while 0 < i {
+        let b = pattern[i - 1];
+        d = moved_back(e, d, b);
+        if b == 0 {
+            if one_at(e, d) {
+                return Mark {
+                    place: i,
+                    offset: d,
+                };
+            }
+        }
+        i -= 1;
+    }
+    Mark {
+        place: 0,
+        offset: 0,
+    }
 }
 
 // The largest byte: a loop with no way out, of which the compiler makes vectors.
@@ -161,7 +235,7 @@ fn is_taken(e: Envelope) -> bool
     }
 }
 
-// 12 to 15, or the mark of a pattern that is inside.
+// 12 to 15, or n*i - l*j past a pattern that is inside.
 fn judge(e: Envelope, pattern: &[u8]) -> Judged
     ensures { λ r. ⌜ r ≡ judged e (now (pattern .entry)) ⌝ }
 {
@@ -175,7 +249,7 @@ fn judge(e: Envelope, pattern: &[u8]) -> Judged
     if plain < pattern.len() {
         return Judged::Unsound(reply::NOT_A_BIT, plain);
     }
-    scan(e, pattern)
+    sweep_or_scan(e, pattern)
 }
 
 // Writes the smallest bits that may follow, from place `from` on, where n*i - l*j is `start`.
@@ -227,7 +301,8 @@ pub fn next(k: i64, K: i64, l: u64, n: u64, pattern: &mut [u8]) -> Answer
     let e = Envelope { k, K, l, n };
     match judge(e, pattern) {
         Judged::Unsound(number, place) => Answer::Refused(number, place),
-        Judged::Sound(m) => {
+        Judged::Sound(end) => {
+            let m = last_mark(e, pattern, end);
             let place = m.place;
             if place == 0 {
                 return Answer::Last;

@@ -19,14 +19,16 @@ fn print_expression(expression: &[u8])
     terminal::print(b"quote", &text[..n]);
 }
 
+// An expression is never empty: only for a refusal is the sheet read twice.
 fn print_quote(sheet: &[u8], clock: usize)
     requires { ⌜ length (now sheet) ≤ 32769 ⌝ }
 {
-    let reply = register::quote_reply(sheet, clock);
-    if reply.number == 0 {
-        print_expression(register::quote(sheet, clock));
-    } else {
+    let part = register::quote(sheet, clock);
+    if part.len() == 0 {
+        let reply = register::quote_reply(sheet, clock);
         terminal::print_refused(b"quote", reply.number, reply.place);
+    } else {
+        print_expression(part);
     }
 }
 

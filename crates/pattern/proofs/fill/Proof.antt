@@ -1,6 +1,6 @@
 -- `pattern::fill` meets its contract. The loop's invariant: what is to be written is what stands before place i, and what is still to come.
 -- Assumes nothing.
-use Prim.Native.Nat.{_-_, _≤_, _<_}
+use Prim.Native.Nat.{ℕ, _-_, _≤_, _<_}
 use native.Mathlib.Omega.{arith}
 use mathlib.Core.Path.{_≡_, refl, sym, ap, subst, _∙_}
 use mathlib.Core.List.{_++_}
@@ -12,7 +12,7 @@ use mir.Facts.{toZ-ofZ}
 use Rattle.pattern.specs.Pattern.{longest}
 use Rattle.pattern.specs.Scan.{Near, filled}
 use Rattle.pattern.proofs.Offsets.{near-more}
-use Rattle.pattern.proofs.Loops.{on-held, near-turn, fill-turn, fill-end}
+use Rattle.pattern.proofs.Loops.{on-held, near-turn, least-bit, fill-turn, fill-end}
 use Rattle.pattern.proofs.fill.Statement.{statement}
 use Rattle.pattern.proofs.fill.Tie as tie
 
@@ -42,7 +42,11 @@ slice-write-pattern c = omega arith
 moved-on-requires : tie.Need-moved-on-requires Inv-loop μ-loop
 moved-on-requires c κs =
     let l = c .before .before in
-    (l .before .before .pre .0, near-more (l .loop .i) longest (toZ w64 (l .loop .d)) (omega arith) (l .loop .inv .2))
+    let s = l .before .before in (
+      s .pre .0,
+      near-more (l .loop .i) longest (toZ w64 (l .loop .d)) (omega arith) (l .loop .inv .2),
+      subst (λ (b : ℕ). b ≤ 1) (sym (c .least-at .ensures)) (least-bit (s .args .e) (toZ w64 (l .loop .d))),
+    )
 
 add-i : tie.Need-add-i Inv-loop μ-loop
 add-i c = omega arith

@@ -34,11 +34,14 @@ returns-3 c =
     let a = f .before .before .args in
     judge-unbit (a .e) (a .pattern .now) (sym (f .is-taken .ensures) ∙ not-false (f .is-taken .result) (t .before .if1 .left)) (t .if2 .left) (c .before .plain-len .result) (c .before .plain-len .ensures) (c .if3 .taken)
 
-scan-requires : tie.Need-scan-requires
-scan-requires c κs =
+sweep-or-scan-requires : tie.Need-sweep-or-scan-requires
+sweep-or-scan-requires c κs =
     let t = c .before .before in
-    let f = t .before .before in
-    (is-taken (f .before .before .args .e) (sym (f .is-taken .ensures) ∙ not-false (f .is-taken .result) (t .before .if1 .left)), t .if2 .left)
+    let f = t .before .before in (
+      is-taken (f .before .before .args .e) (sym (f .is-taken .ensures) ∙ not-false (f .is-taken .result) (t .before .if1 .left)),
+      t .if2 .left,
+      omega (arith, c .before .plain-len .ensures, c .if3 .left),
+    )
 
 returns-4 : tie.Need-returns-4
 returns-4 c =
@@ -46,9 +49,9 @@ returns-4 c =
     let t = d .before .before in
     let f = t .before .before in
     let a = f .before .before .args in
-    judge-scan (a .e) (a .pattern .now) (sym (f .is-taken .ensures) ∙ not-false (f .is-taken .result) (t .before .if1 .left)) (t .if2 .left) (c .scan .result) (omega (arith, d .before .plain-len .ensures, d .if3 .left)) (c .scan .ensures)
+    judge-scan (a .e) (a .pattern .now) (sym (f .is-taken .ensures) ∙ not-false (f .is-taken .result) (t .before .if1 .left)) (t .if2 .left) (c .sweep-or-scan .result) (omega (arith, d .before .plain-len .ensures, d .if3 .left)) (c .sweep-or-scan .ensures)
 
 pub judge-spec : {M : Type 1} → statement M
 judge-spec =
     tie.close
-    (tie.spec is-taken-requires returns returns-2 plain-len-requires returns-3 scan-requires returns-4)
+    (tie.spec is-taken-requires returns returns-2 plain-len-requires returns-3 sweep-or-scan-requires returns-4)

@@ -2,16 +2,22 @@
 -- Assumes nothing.
 use borrow.Author.Needs.{needs}
 use native.Mathlib.Omega.{arith}
-use mathlib.Core.Path.{sym, _∙_}
+use mathlib.Core.Path.{_≡_, sym, _∙_}
 use lib.ListN.{length-set}
 use Rattle.envelope.specs.declared.Envelope.{Envelope}
+use Rattle.pattern.specs.declared.Judged.the-variants.{Sound}
+use Rattle.pattern.specs.Scan.{judged}
 use Rattle.pattern.specs.Answer.{nextAnswer, nextBytes}
-use Rattle.pattern.proofs.Answers.{heldOf, both-given, next-bad, next-last, next-done, within, short, taken, near-held-mark, near-after}
+use Rattle.pattern.proofs.Answers.{heldOf, both-given, next-bad, next-last, next-done, within, short, taken, all-bits, end-held, near-held-mark, near-after}
 use Rattle.pattern.proofs.next.Statement.{statement}
 use Rattle.pattern.proofs.next.Tie as tie
 
 abbrev held : tie.Start → Envelope
 held s = heldOf (s .args .k) (s .args .K) (s .args .l) (s .args .n)
+
+-- a pattern that is inside, as `judge` has it
+sound : (c : tie.After-last-mark-arg) → Sound (c .before .before .end .given .0 .0) ≡ judged (held (c .before .before .before .before .before .before .before)) (c .before .before .before .before .before .before .before .args .pattern .now)
+sound c = let k = c .before .before in sym (k .end .given .1) ∙ k .before .before .judge .ensures
 
 judge-requires : tie.Need-judge-requires
 judge-requires c κs = search needs
@@ -19,54 +25,64 @@ judge-requires c κs = search needs
 enum-known-number : tie.Need-enum-known-number
 enum-known-number c = search needs
 
-enum-known-m : tie.Need-enum-known-m
-enum-known-m c = search needs
+enum-known-end : tie.Need-enum-known-end
+enum-known-end c = search needs
+
+last-mark-requires : tie.Need-last-mark-requires
+last-mark-requires c κs =
+    let s = c .before .before .before .before .before .before .before in
+    let p = s .args .pattern .now in
+    let end = c .before .before .end .given .0 .0 in (
+      (taken (held s) p end (sound c), short (held s) p end (sound c), all-bits (held s) p end (sound c)),
+      end-held (held s) p end (sound c),
+    )
 
 same-length : tie.Need-same-length
 same-length c = search needs
 
 returns : tie.Need-returns
 returns c =
-    let k = c .before .before in
-    let j = k .before .before in
-    let s = j .before .before .before in
+    let w = c .before in
+    let a = w .before in
+    let s = a .before .before .before .before .before .before .before in
     both-given (s .args .k) (s .args .K) (s .args .l) (s .args .n) (s .fits .k) (s .fits .K) nextAnswer nextBytes
-    (next-last (held s) (s .args .pattern .now) (k .m .given .0 .0) (sym (k .m .given .1) ∙ j .judge .ensures) (c .if1 .taken))
+    (next-last (held s) (s .args .pattern .now) (a .before .before .end .given .0 .0) (sound a) (w .last-mark .result) (w .last-mark .ensures) (c .if1 .taken))
 
 sub-pattern : tie.Need-sub-pattern
 sub-pattern c = search needs
 
 slice-write-pattern : tie.Need-slice-write-pattern
 slice-write-pattern c =
-    let k = c .before .before in
-    let j = k .before .before in
-    let s = j .before .before .before in
-    omega (arith, within (held s) (s .args .pattern .now) (k .m .given .0 .0) (sym (k .m .given .1) ∙ j .judge .ensures) (c .if1 .left), c .if1 .left)
+    let w = c .before in
+    let a = w .before in
+    let s = a .before .before .before .before .before .before .before in
+    omega (arith, within (held s) (s .args .pattern .now) (a .before .before .end .given .0 .0) (sound a) (w .last-mark .result) (w .last-mark .ensures) (c .if1 .left), c .if1 .left)
 
 moved-on-requires : tie.Need-moved-on-requires
 moved-on-requires c κs =
     let t = c .before in
-    let k = t .before .before in
-    let j = k .before .before in
-    let s = j .before .before .before in
-    let m = k .m .given .0 .0 in
-    let q = sym (k .m .given .1) ∙ j .judge .ensures in
-    (taken (held s) (s .args .pattern .now) m q (t .if1 .left), near-held-mark (held s) (s .args .pattern .now) m q (t .if1 .left))
+    let w = t .before in
+    let a = w .before in
+    let s = a .before .before .before .before .before .before .before in
+    let p = s .args .pattern .now in
+    let end = a .before .before .end .given .0 .0 in
+    (taken (held s) p end (sound a), near-held-mark (held s) p end (sound a) (w .last-mark .result) (w .last-mark .ensures) (t .if1 .left), omega arith)
 
 fill-requires : tie.Need-fill-requires
 fill-requires c κs =
     let o = c .before in
     let t = o .before .before in
-    let k = t .before .before in
-    let j = k .before .before in
-    let s = j .before .before .before in
+    let w = t .before in
+    let a = w .before in
+    let s = a .before .before .before .before .before .before .before in
     let p = s .args .pattern .now in
-    let m = k .m .given .0 .0 in
-    let q = sym (k .m .given .1) ∙ j .judge .ensures in (
-      taken (held s) p m q (t .if1 .left),
-      rw length-set (short (held s) p m q (t .if1 .left)),
-      rw length-set (within (held s) p m q (t .if1 .left)),
-      near-after (held s) p m q (t .if1 .left) (o .moved-on .result) (o .moved-on .ensures),
+    let end = a .before .before .end .given .0 .0 in
+    let m = w .last-mark .result in
+    let is-mark = w .last-mark .ensures in (
+      taken (held s) p end (sound a),
+      rw length-set (short (held s) p end (sound a)),
+      rw length-set (within (held s) p end (sound a) m is-mark (t .if1 .left)),
+      near-after (held s) p end (sound a) m is-mark (t .if1 .left) (o .moved-on .result) (o .moved-on .ensures),
     )
 
 same-length-2 : tie.Need-same-length-2
@@ -86,15 +102,14 @@ same-length-3 c = c .before .before .fill .kept .1 .0 ∙ simp length-set
 
 returns-3 : tie.Need-returns-3
 returns-3 c =
-    let w = c .before .before in
-    let o = w .before .before in
+    let f = c .before .before in
+    let o = f .before .before in
     let t = o .before .before in
-    let k = t .before .before in
-    let j = k .before .before in
-    let s = j .before .before .before in
-    let q = sym (k .m .given .1) ∙ j .judge .ensures in
+    let w = t .before in
+    let a = w .before in
+    let s = a .before .before .before .before .before .before .before in
     both-given (s .args .k) (s .args .K) (s .args .l) (s .args .n) (s .fits .k) (s .fits .K) nextAnswer nextBytes
-    (next-done (held s) (s .args .pattern .now) (k .m .given .0 .0) q (t .if1 .left) (o .moved-on .result) (o .moved-on .ensures) (w .fill .last .1 .0) (w .fill .ensures))
+    (next-done (held s) (s .args .pattern .now) (a .before .before .end .given .0 .0) (sound a) (w .last-mark .result) (w .last-mark .ensures) (t .if1 .left) (o .moved-on .result) (o .moved-on .ensures) (f .fill .last .1 .0) (f .fill .ensures))
 
 pub next-spec : {M : Type 1} → statement M
 next-spec =
@@ -102,7 +117,8 @@ next-spec =
     (tie.spec
     judge-requires
     enum-known-number
-    enum-known-m
+    enum-known-end
+    last-mark-requires
     same-length
     returns
     sub-pattern

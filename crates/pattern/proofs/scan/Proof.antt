@@ -9,18 +9,18 @@ use mir.Syntax.{w64}
 use mir.Val.{toZ}
 use borrow.Author.Tests.{not-true, not-false}
 use Rattle.pattern.specs.Pattern.{longest}
-use Rattle.pattern.specs.Scan.{Near, unmarked, scanned}
+use Rattle.pattern.specs.Scan.{Near, scanned}
 use Rattle.pattern.proofs.Offsets.{near-start, near-more}
-use Rattle.pattern.proofs.Loops.{on-held, near-turn, scan-stop, scan-turn}
+use Rattle.pattern.proofs.Loops.{plain-before, on-held, near-turn, scan-stop, scan-turn}
 use Rattle.pattern.proofs.scan.Statement.{statement}
 use Rattle.pattern.proofs.scan.Tie as tie
 
 abbrev Inv-loop : tie.InvT-loop
-Inv-loop e pattern m₀ d₀ i₀ m d i =
-    (i ≤ length pattern) × Near i (toZ w64 d) × (scanned e 0 (pos 0) unmarked pattern ≡ scanned e i (toZ w64 d) m (drop i pattern))
+Inv-loop e pattern d₀ i₀ d i =
+    (i ≤ length pattern) × Near i (toZ w64 d) × (scanned e 0 (pos 0) pattern ≡ scanned e i (toZ w64 d) (drop i pattern))
 
 abbrev μ-loop : tie.MeasureT-loop
-μ-loop e pattern m₀ d₀ i₀ m d i = length pattern - i
+μ-loop e pattern d₀ i₀ d i = length pattern - i
 
 loop-holds : tie.Need-loop-holds Inv-loop μ-loop
 loop-holds c = (omega arith, near-start, refl)
@@ -39,15 +39,16 @@ returns c =
     let a = l .before .before .args in
     sym
     (l .loop .inv .2
-    ∙ scan-stop (a .e) (a .pattern .now) (l .loop .i) (toZ w64 (l .loop .d)) (l .loop .m) (c .before .before .before .loop-test .taken) (sym (c .before .may-follow .ensures) ∙ not-true (c .before .may-follow .result) (c .if1 .taken)))
-
-mark-at-requires : tie.Need-mark-at-requires Inv-loop μ-loop
-mark-at-requires c κs = (c .before .before .before .before .before .before .pre .0, omega arith)
+    ∙ scan-stop (a .e) (a .pattern .now) (l .loop .i) (toZ w64 (l .loop .d)) (c .before .before .before .loop-test .taken) (sym (c .before .may-follow .ensures) ∙ not-true (c .before .may-follow .result) (c .if1 .taken)))
 
 moved-on-requires : tie.Need-moved-on-requires Inv-loop μ-loop
 moved-on-requires c κs =
-    let l = c .before .before .before .before .before in
-    (l .before .before .pre .0, near-more (l .loop .i) longest (toZ w64 (l .loop .d)) (omega arith) (l .loop .inv .1))
+    let l = c .before .before .before .before in
+    let s = l .before .before in (
+      s .pre .0,
+      near-more (l .loop .i) longest (toZ w64 (l .loop .d)) (omega arith) (l .loop .inv .1),
+      plain-before (s .args .pattern .now) (l .loop .i) (omega arith),
+    )
 
 add-i : tie.Need-add-i Inv-loop μ-loop
 add-i c = omega arith
@@ -57,19 +58,19 @@ loop-less c = omega arith
 
 loop-again : tie.Need-loop-again Inv-loop μ-loop
 loop-again c =
-    let l = c .before .before .before .before .before .before in
+    let test = c .before .before in
+    let l = test .before .before .before in
     let s = l .before .before in
     let p = s .args .pattern .now in
     let i = l .loop .i in
     let d = toZ w64 (l .loop .d) in
     let b = getD p i 0 in
-    let test = c .before .before .before in
     let short : i < longest = omega arith in
     let held = on-held (s .args .e) (s .pre .0) i d b (c .moved-on .result) (l .loop .inv .1) short (c .moved-on .ensures) in (
       omega arith,
       near-turn (s .args .e) (s .pre .0) i d b (c .moved-on .result) (l .loop .inv .1) short (c .moved-on .ensures),
       l .loop .inv .2
-          ∙ scan-turn (s .args .e) p i d (l .loop .m) (c .before .before .before .before .before .loop-test .taken) _ (c .before .mark-at .result) (sym (test .may-follow .ensures) ∙ not-false (test .may-follow .result) (c .before .before .if1 .left)) held (c .before .mark-at .ensures),
+          ∙ scan-turn (s .args .e) p i d (test .before .before .loop-test .taken) _ held (sym (test .may-follow .ensures) ∙ not-false (test .may-follow .result) (c .before .if1 .left)),
     )
 
 returns-2 : tie.Need-returns-2 Inv-loop μ-loop
@@ -78,7 +79,7 @@ returns-2 c =
     let a = l .before .before .args in
     sym
     (l .loop .inv .2
-    ∙ ap (scanned (a .e) (l .loop .i) (toZ w64 (l .loop .d)) (l .loop .m)) (drop-of-length-le (a .pattern .now) {i = l .loop .i} (c .loop-test .left)))
+    ∙ ap (scanned (a .e) (l .loop .i) (toZ w64 (l .loop .d))) (drop-of-length-le (a .pattern .now) {i = l .loop .i} (c .loop-test .left)))
 
 pub scan-spec : {M : Type 1} → statement M
 scan-spec =
@@ -90,7 +91,6 @@ scan-spec =
     shared-slice-read-b
     may-follow-requires
     returns
-    mark-at-requires
     moved-on-requires
     add-i
     loop-less

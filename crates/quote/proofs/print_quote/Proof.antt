@@ -14,19 +14,13 @@ use Rattle.register.proofs.quote.Reads as quote-reads
 use Rattle.register.proofs.quote_reply.Reads as quote-reply-reads
 use Rattle.terminal.proofs.print_refused.Reads as print-refused-reads
 
--- src/main.rt:25:9
-quote-reply-requires : tie.Need-quote-reply-requires
-quote-reply-requires c κs = search needs
-
--- src/main.rt:27:26
+-- src/main.rt:26:9
 quote-requires : tie.Need-quote-requires
 quote-requires c κs = search needs
 
--- src/main.rt:27:9
-print-expression-requires : tie.Need-print-expression-requires
-print-expression-requires c κs =
-    let s = c .before .before .before .before .before .args .sheet .now in
-    omega (arith, ap length (c .quote .ensures .0), part-short (quotingOf s (c .before .before .before .before .before .args .clock)) s)
+-- src/main.rt:28:13
+quote-reply-requires : tie.Need-quote-reply-requires
+quote-reply-requires c κs = search needs
 
 -- src/main.rt:29:33
 slice-aggregate-print-refused : tie.Need-slice-aggregate-print-refused
@@ -36,11 +30,17 @@ slice-aggregate-print-refused c = search needs
 print-refused-requires : tie.Need-print-refused-requires
 print-refused-requires c κs = search needs
 
--- src/main.rt:22:1
+-- src/main.rt:31:9
+print-expression-requires : tie.Need-print-expression-requires
+print-expression-requires c κs =
+    let a = c .before .before .before .args in
+    omega (arith, ap length (c .before .quote .ensures .0), part-short (quotingOf (a .sheet .now) (a .clock)) (a .sheet .now))
+
+-- src/main.rt:23:1
 returns : tie.Need-returns
 returns c = search needs
 
--- src/main.rt:22:1
+-- src/main.rt:23:1
 returns-2 : tie.Need-returns-2
 returns-2 c = search needs
 
@@ -48,10 +48,10 @@ pub print-quote-spec : {M : Type 1} → statement M
 print-quote-spec =
     tie.close
     (tie.spec
-    quote-reply-requires
     quote-requires
-    print-expression-requires
+    quote-reply-requires
     slice-aggregate-print-refused
     print-refused-requires
+    print-expression-requires
     returns
     returns-2)
