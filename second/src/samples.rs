@@ -1,6 +1,6 @@
 //! Fixed inputs, from small to the largest, on which programs are timed.
 
-use crate::model::{not, on, Expr, Model, Word};
+use crate::model::{not, on, Expr, Model, Rng, Word};
 use crate::pattern::Four;
 
 /// The sheet that the rules list as their example.
@@ -13,6 +13,14 @@ pub const EXAMPLE: [u8; 46] = [
 pub const WALK: Four = Four {
     low: -20,
     high: 40,
+    l: 8,
+    n: 3,
+};
+
+/// A wide envelope, in which patterns can be irregular.
+pub const WIDE: Four = Four {
+    low: -2_000,
+    high: 4_000,
     l: 8,
     n: 3,
 };
@@ -99,4 +107,18 @@ pub fn turned_at_once(length: usize) -> Vec<u8> {
         j += *bit as i64;
     }
     pattern
+}
+
+/// A pattern in the wide envelope without a rule.
+pub fn irregular(length: usize) -> Vec<u8> {
+    let mut rng = Rng::new(1);
+    let mut at = 0;
+    (0..length)
+        .map(|_| {
+            let wanted = rng.below(WIDE.l as usize) < WIDE.n as usize;
+            let one = (wanted && at >= WIDE.low) || at + WIDE.n as i64 > WIDE.high;
+            at += WIDE.n as i64 - if one { WIDE.l as i64 } else { 0 };
+            one as u8
+        })
+        .collect()
 }

@@ -1,12 +1,12 @@
 //! The figures of the rules, and some of their sentences.
 
-use crate::samples::{full, typical, EXAMPLE};
 use crate::cases;
 use crate::envelope::{div_down, div_up, Envelope, Verdict};
 use crate::listing::list;
 use crate::model::{marked, not, on, Expr, Model, Word};
 use crate::pattern::{check, first, next, Four};
 use crate::protocol::Case;
+use crate::samples::{full, typical, EXAMPLE};
 use crate::sheet::{close, quote, work_out, Counts, Design, Refusal, SHEET_MAX};
 
 fn bits(text: &str) -> Vec<u8> {

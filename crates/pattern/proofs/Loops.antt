@@ -15,13 +15,12 @@ use mir.Val.{toZ, ofZ}
 use lib.Dec.{ltb, leb}
 use borrow.Author.Tests.{le-leb, lt-leb, leb-true, ltb-true, ltb-false}
 use Rattle.reply.specs.Numbers.{outside}
-use Rattle.whole.specs.Order.{larger}
 use Rattle.envelope.specs.declared.Envelope.{Envelope}
 use Rattle.pattern.specs.declared.Mark.{Mark}
 use Rattle.pattern.specs.declared.Judged.the-variants.{Unsound}
 use Rattle.envelope.specs.Envelope.{Taken}
 use Rattle.pattern.specs.Pattern.{longest, plain}
-use Rattle.pattern.specs.Scan.{Near, oneAt, zeroAt, mayAt, onward, leastAt, filled, reached, scanned, leastWith, sweptFrom, marked, unmarked, lastMark, markOf, largestFrom}
+use Rattle.pattern.specs.Scan.{Near, oneAt, zeroAt, mayAt, onward, leastAt, filled, reached, scanned, leadingOf, marked, unmarked, lastMark, markOf, largestFrom}
 use Rattle.pattern.proofs.Offsets.{near-on, near-held, on-injective}
 
 -- ---- the first byte that is no bit
@@ -39,6 +38,22 @@ plain-before (b ∷ p) t h = go (leb b 1) refl t h (plain-before p)
     go true q zero k ih = leb-true b 1 q
     go true q (suc t) k ih = ih t (le-of-suc-le-suc k)
     go false q t k ih = absurd (not-suc-le-zero k)
+
+-- ---- the 0s that a pattern begins with
+pub lead-go : (p : List ℕ) (i : ℕ) → i < length p → getD p i 0 ≡ 0 → leadingOf (drop i p) ≡ suc (leadingOf (drop (suc i) p))
+lead-go p i h k = rw (drop-cons p i 0 h, k)
+
+pub lead-stop : (p : List ℕ) (i : ℕ) → i < length p → 0 < getD p i 0 → leadingOf (drop i p) ≡ 0
+lead-stop p i h k = rw (drop-cons p i 0 h) (go (getD p i 0) k)
+  where
+    go : (b : ℕ) → 0 < b → leadingOf (b ∷ drop (suc i) p) ≡ 0
+    go zero q = absurd (omega arith)
+    go (suc b) q = refl
+
+pub lead-length : (p : List ℕ) → leadingOf p ≤ length p
+lead-length [] = omega arith
+lead-length (zero ∷ p) = let s = lead-length p in omega arith
+lead-length (suc b ∷ p) = omega arith
 
 -- ---- the largest byte: where it is at most 1, all bytes are bits
 pub largest-turn : (p : List ℕ) (i m : ℕ) → i < length p → largestFrom m (drop i p) ≡ largestFrom (cond (ltb m (getD p i 0)) (getD p i 0) m) (drop (i + 1) p)
@@ -75,9 +90,6 @@ module _ (e : Envelope) (p : List ℕ) (i : ℕ) (d : ℤ) (h : i < length p) wh
   module _ (s : ℤ) (is-on : s ≡ onward e d (getD p i 0)) where
     pub scan-turn : mayAt e d (getD p i 0) ≡ true → scanned e i d (drop i p) ≡ scanned e (i + 1) s (drop (i + 1) p)
     scan-turn k = rw (is-on, add-one, drop-cons p i 0 h, k)
-
-    pub sweep-turn : (least most x y : ℤ) → x ≡ leastWith least d (getD p i 0) → y ≡ larger most s → sweptFrom e least most d (drop i p) ≡ sweptFrom e x y s (drop (i + 1) p)
-    sweep-turn least most x y ex ey = rw (ex, ey, is-on, add-one, drop-cons p i 0 h)
 
 -- ---- from the end: one bit less
 reached-snoc : (e : Envelope) (q : List ℕ) (d : ℤ) (b : ℕ) → reached e d (q ++ (b ∷ [])) ≡ onward e (reached e d q) b

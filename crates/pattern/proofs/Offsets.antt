@@ -1,26 +1,25 @@
 -- The offset n*i - l*j of a place decides which bit may follow it, and is carried along by sums.
 -- Assumes nothing.
-use Prim.Native.Nat.{ℕ, zero, suc, _+_, _*_, _≤_, _<_}
+use Prim.Native.Nat.{ℕ, zero, suc, _+_, _*_, _^_, _≤_, _<_}
 use native.Mathlib.Nat.{mul-suc, mul-zero, mul-one, add-zero, zero-add, add-suc, suc-add}
 use native.Mathlib.Omega.{arith}
 use mathlib.Core.Path.{_≡_, refl, ap, ap₂}
 use mathlib.Core.Bool.{Bool, true, false, _&&_}
 use mathlib.Core.List.{List, [], _∷_}
 use lib.ListN.{length}
-use lib.IntN.{ℤ, pos, _+ℤ_, _-ℤ_}
-use lib.Signed.{leZ}
-use Rattle.whole.proofs.Bridge.{up, down, sum, diff, up-neg, down-neg, whole-ext, leZ-true, ≤ℤ-shows, up-most, down-most, up-sum-le, down-sum-le, up-diff-le, down-diff-le, sfits-small}
-use Rattle.whole.specs.Order.{smaller}
+use lib.IntN.{ℤ, pos, negsuc, natAbs, _+ℤ_, _-ℤ_}
+use lib.Signed.{leZ, _≤ℤ_}
+use Rattle.whole.proofs.Bridge.{up, down, sum, diff, up-neg, down-neg, whole-ext, leZ-true, ≤ℤ-reads, ≤ℤ-shows, up-most, down-most, up-sum-le, down-sum-le, up-diff-le, down-diff-le, sfits-small}
 use Rattle.envelope.specs.declared.Envelope.{Envelope}
 use Rattle.envelope.specs.Envelope.{Taken}
 use Rattle.envelope.specs.Limits.{lMost}
-use Rattle.envelope.proofs.Held.{n-small, K-up, K-down}
+use Rattle.envelope.proofs.Held.{n-small, k-up, k-down, K-up, K-down}
 use mir.Syntax.{w64}
 use mir.Val.{SFits, toZ, ofZ}
 use mir.Facts.{toZ-ofZ}
 use Rattle.pattern.specs.Step.{low, high, oneMay, zeroMay}
 use Rattle.pattern.specs.Pattern.{longest, after, may, least, fill}
-use Rattle.pattern.specs.Scan.{Near, oneAt, zeroAt, mayAt, stepOf, onward, filled, reached, leastWith}
+use Rattle.pattern.specs.Scan.{Near, oneAt, zeroAt, mayAt, stepOf, onward, filled, reached, floorOf}
 use Rattle.pattern.proofs.Edges.{leZ-false}
 
 -- two tests of whole numbers that say the same
@@ -150,6 +149,44 @@ room-fits e t =
     sfits-small
     (omega (arith, up-diff-le (e .K) (pos (e .n)), down-diff-le (e .K) (pos (e .n)), n-small e t, K-up e (t .limits), K-down e (t .limits)))
 
+pub floor-fits : (e : Envelope) → Taken e → SFits w64 (floorOf e)
+floor-fits e t =
+    let s = step-near e t 1 in
+    sfits-small
+    (omega (arith, up-sum-le (e .k) (stepOf e 1), down-sum-le (e .k) (stepOf e 1), k-up e (t .limits), k-down e (t .limits)))
+
+-- K and the floor are as near as an offset
+pub K-near : (e : Envelope) → Taken e → Near longest (e .K)
+K-near e t = near-shows longest (e .K) (omega (arith, K-up e (t .limits))) (omega (arith, K-down e (t .limits)))
+
+pub floor-near : (e : Envelope) → Taken e → Near longest (floorOf e)
+floor-near e t =
+    let s = step-near e t 1 in
+    near-shows longest (floorOf e)
+    (omega (arith, up-sum-le (e .k) (stepOf e 1), k-up e (t .limits)))
+    (omega (arith, down-sum-le (e .k) (stepOf e 1), k-down e (t .limits)))
+
+pub floor-below : (e : Envelope) → Taken e → floorOf e ≤ℤ e .K
+floor-below e t =
+    ≤ℤ-shows
+    (omega (arith, sum (e .k) (stepOf e 1), diff (pos (e .n)) (pos (e .l)), diff (e .K) (e .k), ≤ℤ-reads (t .room), t .n-least, t .n-most))
+
+pub gap-fits : (x y : ℤ) → Near longest x → Near longest y → SFits w64 (x -ℤ y)
+gap-fits x y v w =
+    let r = near-reads longest x v in
+    let s = near-reads longest y w in
+    sfits-small (omega (arith, up-diff-le x y, down-diff-le x y))
+
+pub gap-small : (x y : ℤ) → Near longest x → Near longest y → natAbs (x -ℤ y) < 2 ^ 64
+gap-small x y v w =
+    let r = near-reads longest x v in
+    let s = near-reads longest y w in
+    go (x -ℤ y) (omega (arith, up-diff-le x y, down-diff-le x y))
+  where
+    go : (z : ℤ) → up z + down z ≤ 20_000_000_000 → natAbs z < 2 ^ 64
+    go (pos a) h = omega arith
+    go (negsuc a) h = omega arith
+
 pub step-fits : (e : Envelope) → Taken e → (b : ℕ) → SFits w64 (stepOf e b)
 step-fits e t b = let s = step-near e t b in sfits-small (omega arith)
 
@@ -176,7 +213,3 @@ on-injective e x y b q =
 pub may-one : (e : Envelope) (d : ℤ) (b : ℕ) → 0 < b → mayAt e d b ≡ oneAt e d
 may-one e d zero h = absurd (omega arith)
 may-one e d (suc b) h = refl
-
-pub least-one : (m d : ℤ) (b : ℕ) → 0 < b → leastWith m d b ≡ smaller d m
-least-one m d zero h = absurd (omega arith)
-least-one m d (suc b) h = refl

@@ -1,75 +1,82 @@
--- What a sweep finds decides: where no 1 stands below k and no offset is above K, every step may be taken.
+-- What a sweep finds: an offset is held as what it is above the floor, and within the room every step may be taken.
 -- Assumes nothing.
-use Prim.Native.Nat.{ℕ, zero, suc}
+use Prim.Native.Nat.{ℕ, zero, suc, _+_, _*_, _%_, _^_, _≤_}
+use native.Mathlib.Nat.{mul-suc, mul-zero, mul-one, mul-le-mul-left, add-zero, add-suc, suc-add, zero-add, mod-eq-of-lt}
 use native.Mathlib.Omega.{arith}
-use mathlib.Core.Path.{_≡_, refl, sym, ap, subst, _∙_}
-use mathlib.Core.Bool.{true}
+use mathlib.Core.Path.{_≡_, sym, ap, subst, _∙_}
+use mathlib.Core.Bool.{true, false}
 use mathlib.Core.List.{List, [], _∷_}
-use lib.IntN.{ℤ, pos}
-use lib.Signed.{leZ, _≤ℤ_}
-use Rattle.whole.specs.Order.{larger, smaller}
-use Rattle.whole.proofs.Bridge.{signed}
-use Rattle.whole.proofs.Order.{larger-left, larger-right, smaller-left, smaller-right}
+use lib.IntN.{ℤ, pos, _+ℤ_}
+use lib.ListN.{drop}
+use lib.Signed.{leZ, ltZ, _≤ℤ_}
+use Rattle.whole.proofs.Bridge.{up, down, sum, diff, whole-ext, ltZ-false, ≤ℤ-reads, ≤ℤ-shows}
 use Rattle.envelope.specs.declared.Envelope.{Envelope}
 use Rattle.envelope.specs.Envelope.{Taken}
-use Rattle.pattern.specs.declared.Swept.{Swept}
-use Rattle.pattern.specs.declared.Judged.{Judged}
-use Rattle.pattern.specs.declared.Judged.the-variants.{Sound}
+use Rattle.envelope.proofs.Held.{k-up, k-down, K-up, K-down}
+use Rattle.pattern.specs.Scan.{oneAt, zeroAt, mayAt, stepOf, onward, scanned, leadingOf, floorOf}
 use Rattle.pattern.proofs.Walking.{is-true}
-use Rattle.pattern.specs.Scan.{oneAt, zeroAt, mayAt, onward, scanned, reached, leastWith, sweptFrom}
-
-at-most : {x y z : ℤ} → x ≤ℤ y → y ≤ℤ z → x ≤ℤ z
-at-most p q = omega (arith, signed)
 
 module _ (e : Envelope) where
-  -- what has been found stays within what is found in the end
-  least-falls : (p : List ℕ) (least most d : ℤ) → sweptFrom e least most d p .least ≤ℤ least
-  least-falls [] least most d = omega (arith, signed)
-  least-falls (b ∷ p) least most d = at-most (least-falls p (leastWith least d b) (larger most (onward e d b)) (onward e d b)) (falls b)
-    where
-      falls : (b : ℕ) → leastWith least d b ≤ℤ least
-      falls zero = omega (arith, signed)
-      falls (suc b) = smaller-right d least
+  -- ---- at x above the floor the bit b leads to y above it
+  module _ (x y : ℕ) where
+    pub on-floor : (b : ℕ) → b ≤ 1 → y + e .l * b ≡ x + e .n → pos y +ℤ floorOf e ≡ onward e (pos x +ℤ floorOf e) b
+    on-floor zero bit on =
+        whole-ext
+        (omega (arith, sum (pos y) (floorOf e), sum (pos x) (floorOf e), sum (pos x +ℤ floorOf e) (pos (e .n)), mul-zero (e .l)))
+    on-floor (suc zero) bit on =
+        whole-ext
+        (omega (arith, sum (pos y) (floorOf e), sum (pos x) (floorOf e), sum (pos x +ℤ floorOf e) (stepOf e 1), diff (pos (e .n)) (pos (e .l)), mul-one (e .l)))
+    on-floor (suc (suc b)) bit on = absurd (omega arith)
 
-  most-rises : (p : List ℕ) (least most d : ℤ) → most ≤ℤ sweptFrom e least most d p .most
-  most-rises [] least most d = omega (arith, signed)
-  most-rises (b ∷ p) least most d = at-most (larger-left most (onward e d b)) (most-rises p (leastWith least d b) (larger most (onward e d b)) (onward e d b))
+    -- within the room
+    module _ (room : ℕ) (top : pos room +ℤ floorOf e ≡ e .K) (x-in : x ≤ room) (y-in : y ≤ room) where
+      pub may-floor : (b : ℕ) → b ≤ 1 → y + e .l * b ≡ x + e .n → mayAt e (pos x +ℤ floorOf e) b ≡ true
+      unfolding oneAt zeroAt
+      may-floor zero bit on =
+          let on-top : ((pos x +ℤ floorOf e) +ℤ pos (e .n)) ≤ℤ e .K = ≤ℤ-shows (omega (arith, sum (pos x) (floorOf e), sum (pos x +ℤ floorOf e) (pos (e .n)), sum (pos room) (floorOf e), ap up top, ap down top, mul-zero (e .l))) in
+          is-true (zeroAt e (pos x +ℤ floorOf e)) (on-top .le)
+      may-floor (suc zero) bit on =
+          let low : e .k ≤ℤ (pos x +ℤ floorOf e) = ≤ℤ-shows (omega (arith, sum (pos x) (floorOf e), sum (e .k) (stepOf e 1), diff (pos (e .n)) (pos (e .l)), mul-one (e .l))) in
+          let high : (pos x +ℤ floorOf e) ≤ℤ e .K = ≤ℤ-shows (omega (arith, sum (pos x) (floorOf e), sum (pos room) (floorOf e), ap up top, ap down top)) in
+          rw (is-true (leZ (e .k) (pos x +ℤ floorOf e)) (low .le), is-true (leZ (pos x +ℤ floorOf e) (e .K)) (high .le))
+      may-floor (suc (suc b)) bit on = absurd (omega arith)
 
-  end-is : (p : List ℕ) (least most d : ℤ) → sweptFrom e least most d p .end ≡ reached e d p
-  end-is [] least most d = refl
-  end-is (b ∷ p) least most d = end-is p (leastWith least d b) (larger most (onward e d b)) (onward e d b)
+  -- ---- the 0s that a pattern begins with may be taken, where n times their number is at most K
+  lead-on : (p : List ℕ) (i : ℕ) → pos (e .n * (i + leadingOf p)) ≤ℤ e .K → scanned e i (pos (e .n * i)) p ≡ scanned e (i + leadingOf p) (pos (e .n * (i + leadingOf p))) (drop (leadingOf p) p)
+  unfolding zeroAt
+  lead-on [] i h = rw add-zero
+  lead-on (suc b ∷ p) i h = rw add-zero
+  lead-on (zero ∷ p) i h =
+      let k : pos (e .n * (suc i + leadingOf p)) ≤ℤ e .K = subst (λ (t : ℕ). pos (e .n * t) ≤ℤ e .K) (add-suc i (leadingOf p) ∙ sym (suc-add i (leadingOf p))) h in
+      let more : e .n * suc i ≤ e .n * (suc i + leadingOf p) = mul-le-mul-left (e .n) (omega arith) in
+      let on : onward e (pos (e .n * i)) 0 ≡ pos (e .n * suc i) = whole-ext (omega (arith, sum (pos (e .n * i)) (pos (e .n)), mul-suc (e .n) i)) in
+      let fits : onward e (pos (e .n * i)) 0 ≤ℤ e .K = rw on (≤ℤ-shows (omega (arith, ≤ℤ-reads k, more))) in
+      rw (is-true (zeroAt e (pos (e .n * i))) (fits .le), on, add-suc i (leadingOf p), ← suc-add i (leadingOf p)) (lead-on p (suc i) k)
 
-  sweep-sound : (p : List ℕ) (i : ℕ) (least most d : ℤ) → d ≤ℤ e .K → e .k ≤ℤ sweptFrom e least most d p .least → sweptFrom e least most d p .most ≤ℤ e .K → scanned e i d p ≡ Sound (reached e d p)
-  unfolding oneAt zeroAt
-  sweep-sound [] i least most d top low high = refl
-  sweep-sound (b ∷ p) i least most d top low high =
-      rw (may b refl) (sweep-sound p (suc i) x y s on-top low high)
-    where
-      s : ℤ
-      s = onward e d b
+  pub lead-from : (p : List ℕ) (t : ℕ) → t ≡ leadingOf p → pos (e .n * t) ≤ℤ e .K → scanned e 0 (pos 0) p ≡ scanned e t (pos (e .n * t)) (drop t p)
+  lead-from p t q h =
+      let start : pos 0 ≡ pos (e .n * 0) = ap pos (sym (mul-zero (e .n))) in
+      let all : 0 + leadingOf p ≡ t = zero-add (leadingOf p) ∙ sym q in
+      ap (λ (d : ℤ). scanned e 0 d p) start
+      ∙ lead-on p 0 (subst (λ (k : ℕ). pos (e .n * k) ≤ℤ e .K) (sym all) h)
+      ∙ ap (λ (k : ℕ). scanned e k (pos (e .n * k)) (drop (leadingOf p) p)) all
+      ∙ ap (λ (k : ℕ). scanned e t (pos (e .n * t)) (drop k p)) (sym q)
 
-      x : ℤ
-      x = leastWith least d b
+  -- ---- the room is small
+  module _ (taken : Taken e) where
+    pub room-small : (room : ℕ) → pos room +ℤ floorOf e ≡ e .K → room ≤ 2_001_000_000
+    room-small room top =
+        omega
+        (arith, sum (pos room) (floorOf e), sum (e .k) (stepOf e 1), diff (pos (e .n)) (pos (e .l)), ap up top, ap down top, taken .limits .l-most, k-down e (taken .limits), k-up e (taken .limits), K-up e (taken .limits), K-down e (taken .limits))
 
-      y : ℤ
-      y = larger most s
+pub not-less : (x y : ℤ) → ltZ x y ≡ false → y ≤ℤ x
+not-less x y q = ≤ℤ-shows (omega (arith, ltZ-false x y q))
 
-      on-top : s ≤ℤ e .K
-      on-top = at-most (at-most (larger-right most s) (most-rises p x y s)) high
+-- what is not above the top is within the room
+pub within-room : (r room : ℕ) (low x top : ℤ) → pos r +ℤ low ≡ x → pos room +ℤ low ≡ top → x ≤ℤ top → r ≤ room
+within-room r room low x top p q h =
+    omega (arith, sum (pos r) low, sum (pos room) low, ap up p, ap down p, ap up q, ap down q, ≤ℤ-reads h)
 
-      -- the bit is no 1, or k is at most d
-      above : (c : ℕ) → b ≡ suc c → e .k ≤ℤ d
-      above c q =
-          let w : x ≡ smaller d least = ap (leastWith least d) q in
-          at-most (at-most low (least-falls p x y s)) (subst (λ (z : ℤ). z ≤ℤ d) (sym w) (smaller-left d least))
-
-      may : (c : ℕ) → b ≡ c → mayAt e d c ≡ true
-      may zero q = is-true (zeroAt e d) (subst (λ (c : ℕ). onward e d c ≤ℤ e .K) q on-top .le)
-      may (suc c) q = rw (is-true (leZ (e .k) d) (above c q .le), is-true (leZ d (e .K)) (top .le))
-
-  -- from the start, with K as the smallest so far
-  pub swept-inside : Taken e → (p : List ℕ) (r : Swept) → r ≡ sweptFrom e (e .K) (pos 0) (pos 0) p → e .k ≤ℤ r .least → r .most ≤ℤ e .K → Sound (r .end) ≡ scanned e 0 (pos 0) p
-  swept-inside t p r q low high =
-      ap (λ (x : Swept). Sound (x .end)) q
-      ∙ ap {B = Judged} Sound (end-is p (e .K) (pos 0) (pos 0))
-      ∙ sym (sweep-sound p 0 (e .K) (pos 0) (pos 0) (t .limits .K-least) (subst (λ (x : Swept). e .k ≤ℤ x .least) q low) (subst (λ (x : Swept). x .most ≤ℤ e .K) q high))
+-- a difference that wrapped would be large
+pub not-wrapped : (r b a : ℕ) → (r + b) % 2 ^ 64 ≡ a → r ≤ 2_001_000_000 → b ≤ 1_000_000 → r + b ≡ a
+not-wrapped r b a q h k = sym (mod-eq-of-lt (omega arith)) ∙ q

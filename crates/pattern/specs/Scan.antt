@@ -7,12 +7,10 @@ use lib.Signed.{leZ, _≤ℤ_}
 use lib.ListN.{length}
 use lib.Dec.{ltb}
 use Rattle.reply.specs.Numbers.{noEnvelope, longPattern, notABit, outside}
-use Rattle.whole.specs.Order.{larger, smaller}
 use Rattle.envelope.specs.declared.Envelope.{Envelope}
 use Rattle.envelope.specs.Limits.{lMost}
 use Rattle.envelope.specs.Standing.{standingOf}
 use Rattle.pattern.specs.declared.Mark.{Mark}
-use Rattle.pattern.specs.declared.Swept.{Swept}
 use Rattle.pattern.specs.declared.Judged.{Judged}
 use Rattle.pattern.specs.declared.Judged.the-variants.{Sound, Unsound}
 use Rattle.pattern.specs.Pattern.{longest, plain}
@@ -64,15 +62,15 @@ abbrev pub scanned : Envelope → ℕ → ℤ → List ℕ → Judged
 scanned e i d [] = Sound d
 scanned e i d (b ∷ p) = cond (mayAt e d b) (scanned e (suc i) (onward e d b) p) (Unsound outside i)
 
--- the smallest offset at a 1: m so far, then the bit b at d
-abbrev pub leastWith : ℤ → ℤ → ℕ → ℤ
-leastWith m d zero = m
-leastWith m d (suc b) = smaller d m
+-- how many 0s some bits begin with
+abbrev pub leadingOf : List ℕ → ℕ
+leadingOf [] = zero
+leadingOf (zero ∷ p) = suc (leadingOf p)
+leadingOf (suc b ∷ p) = zero
 
--- the smallest offset at a 1, the largest past a bit and the last, from d on
-abbrev pub sweptFrom : Envelope → ℤ → ℤ → ℤ → List ℕ → Swept
-sweptFrom e least most d [] = record { least = least; most = most; end = d }
-sweptFrom e least most d (b ∷ p) = sweptFrom e (leastWith least d b) (larger most (onward e d b)) (onward e d b) p
+-- the least offset that a 1 may leave behind
+abbrev pub floorOf : Envelope → ℤ
+floorOf e = e .k +ℤ stepOf e 1
 
 -- the last 0 that could be a 1: its place, plus one, and the offset there; with the bit b at i
 abbrev pub marked : Envelope → ℕ → ℤ → Mark → ℕ → Mark

@@ -2,13 +2,15 @@
 ghost use mathlib.Core.Path.{_≡_};
 ghost use mathlib.Core.List.{_++_};
 ghost use Prim.Native.Nat.{_-_, _≤_, _<_};
-ghost use lib.IntN.{pos};
-ghost use lib.ListN.{length, take};
+ghost use lib.IntN.{pos, _+ℤ_};
+ghost use lib.Signed.{_≤ℤ_};
+ghost use lib.ListN.{length, take, drop};
 ghost use Rattle.envelope.specs.Envelope.{Taken};
 ghost use Rattle.envelope.specs.Standing.{standingOf};
+ghost use Rattle.pattern.specs.declared.Judged.the-variants.{Sound};
 ghost use Rattle.pattern.specs.Pattern.{longest, plain};
 ghost use Rattle.pattern.specs.Answer.{given, isFine, checkAnswer, firstAnswer, firstBytes, nextAnswer, nextBytes};
-ghost use Rattle.pattern.specs.Scan.{Near, oneAt, zeroAt, mayAt, stepOf, onward, leastAt, filled, reached, scanned, leastWith, sweptFrom, markOf, largestFrom, judged};
+ghost use Rattle.pattern.specs.Scan.{Near, oneAt, zeroAt, mayAt, stepOf, onward, leastAt, filled, reached, scanned, leadingOf, floorOf, markOf, largestFrom, judged};
 use envelope::Envelope;
 use envelope::Standing;
 
@@ -27,13 +29,6 @@ pub enum Answer {
 struct Mark {
     place: usize,
     offset: i64,
-}
-
-// What a pass with no way out finds: the smallest n*i - l*j at a 1, the largest past a bit, and the last.
-struct Swept {
-    least: i64,
-    most: i64,
-    end: i64,
 }
 
 // n*i - l*j past a pattern that is inside, or a refusal's number and place.
@@ -98,40 +93,6 @@ fn least_at(e: Envelope, d: i64) -> u8
     if zero_at(e, d) { 0 } else { 1 }
 }
 
-// The smallest n*i - l*j at a 1, with the bit b where it is d.
-fn least_with(least: i64, d: i64, b: u8) -> i64
-    ensures { λ r. ⌜ r ≡ leastWith least d b ⌝ }
-{
-    if b == 0 {
-        least
-    } else {
-        whole::smaller_of(d, least)
-    }
-}
-
-// A pass of the same work for all bits, so that none is guessed.
-fn sweep(e: Envelope, pattern: &[u8]) -> Swept
-    requires { ⌜ Taken e × (length (now pattern) ≤ longest) × (length (now pattern) ≤ plain (now pattern)) ⌝ }
-    ensures { λ r. ⌜ r ≡ sweptFrom e (e .K) (pos 0) (pos 0) (now (pattern .entry)) ⌝ }
-{
-    let mut least: i64 = e.K;
-    let mut most: i64 = 0;
-    let mut d: i64 = 0;
-    let mut i = 0;
-    while i < pattern.len() {
-        let b = pattern[i];
-        least = least_with(least, d, b);
-        d = moved_on(e, d, b);
-        most = whole::larger_of(most, d);
-        i += 1;
-    }
-    Swept {
-        least,
-        most,
-        end: d,
-    }
-}
-
 // One pass: the first forbidden step, or n*i - l*j past the end.
 fn scan(e: Envelope, pattern: &[u8]) -> Judged
     requires { ⌜ Taken e × (length (now pattern) ≤ longest) × (length (now pattern) ≤ plain (now pattern)) ⌝ }
@@ -150,18 +111,84 @@ fn scan(e: Envelope, pattern: &[u8]) -> Judged
     Judged::Sound(d)
 }
 
-// The same, by a sweep where the pattern is inside.
+// How many 0s a pattern begins with.
+fn leading(pattern: &[u8]) -> usize
+    ensures { λ r. ⌜ r ≡ leadingOf (now (pattern .entry)) ⌝ }
+{
+    let mut i = 0;
+    while i < pattern.len() {
+        if pattern[i] != 0 {
+            return i;
+        }
+        i += 1;
+    }
+    i
+}
+
+// The least n*i - l*j that a 1 may leave behind.
+fn floor(e: Envelope) -> i64
+    requires { ⌜ Taken e ⌝ }
+    ensures { λ r. ⌜ r ≡ floorOf e ⌝ }
+{
+    e.k + step(e, 1)
+}
+
+// How far x is above it.
+fn above(x: i64, low: i64) -> u64
+    requires { ⌜ Near longest x × Near longest low × (low ≤ℤ x) ⌝ }
+    ensures { λ r. ⌜ pos r +ℤ low ≡ x ⌝ }
+{
+    (x - low) as u64
+}
+
+// From place `from` on, where n*i - l*j is `start` above the floor: how far above it the pattern ends, or, where it is outside, more than
+// the room. One test a bit, of a number that wraps below the floor.
+fn sweep(e: Envelope, room: u64, pattern: &[u8], from: usize, start: u64) -> u64
+    requires { ⌜ Taken e × (length (now pattern) ≤ plain (now pattern)) × (from ≤ length (now pattern)) ⌝ }
+    requires { ⌜ (pos room +ℤ floorOf e ≡ e .K) × (start ≤ room) ⌝ }
+    ensures { λ r. ⌜ (r ≤ room → scanned e from (pos start +ℤ floorOf e) (drop from (now (pattern .entry))) ≡ Sound (pos r +ℤ floorOf e)) ⌝ }
+{
+    let mut x = start;
+    let mut i = from;
+    while i < pattern.len() {
+        x = std::num::wrapping_sub_u64(x + e.n, e.l * (pattern[i] as u64));
+        if room < x {
+            return x;
+        }
+        i += 1;
+    }
+    x
+}
+
+// The same from the start: no 1 stands before `leading`, so that none can be too early there.
+fn height(e: Envelope, low: i64, room: u64, pattern: &[u8]) -> u64
+    requires { ⌜ Taken e × (length (now pattern) ≤ longest) × (length (now pattern) ≤ plain (now pattern)) ⌝ }
+    requires { ⌜ (low ≡ floorOf e) × (pos room +ℤ low ≡ e .K) ⌝ }
+    ensures { λ r. ⌜ (r ≤ room → scanned e 0 (pos 0) (now (pattern .entry)) ≡ Sound (pos r +ℤ floorOf e)) ⌝ }
+{
+    let from = leading(pattern);
+    let start = (e.n * (from as u64)) as i64;
+    if start < low {
+        return room + 1;
+    }
+    if e.K < start {
+        return room + 1;
+    }
+    sweep(e, room, pattern, from, above(start, low))
+}
+
+// The first forbidden step, or n*i - l*j past the end; looked for bit by bit only where a sweep finds one, or can't tell.
 fn sweep_or_scan(e: Envelope, pattern: &[u8]) -> Judged
     requires { ⌜ Taken e × (length (now pattern) ≤ longest) × (length (now pattern) ≤ plain (now pattern)) ⌝ }
     ensures { λ r. ⌜ r ≡ scanned e 0 (pos 0) (now (pattern .entry)) ⌝ }
 {
-    let s = sweep(e, pattern);
-    if e.k <= s.least {
-        if s.most <= e.K {
-            return Judged::Sound(s.end);
-        }
+    let low = floor(e);
+    let room = above(e.K, low);
+    let x = height(e, low, room, pattern);
+    if room < x {
+        return scan(e, pattern);
     }
-    scan(e, pattern)
+    Judged::Sound(x as i64 + low)
 }
 
 // The mark, looked for from the end: a walk turns bits near it.

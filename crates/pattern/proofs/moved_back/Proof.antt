@@ -6,17 +6,15 @@ use lib.IntN.{ℤ, _-ℤ_}
 use mir.Facts.{toZ-ofZ}
 use mir.Syntax.{w64}
 use mir.Val.{toZ, ofZ}
-use Rattle.whole.proofs.Machine.{fits-by, back-by}
+use Rattle.whole.proofs.Machine.{told, fits-by, back-by}
 use Rattle.pattern.specs.Scan.{stepOf, onward}
-use Rattle.pattern.proofs.Offsets.{step-fits, back-fits, back-on}
+use Rattle.pattern.proofs.Offsets.{back-fits, back-on}
 use Rattle.pattern.proofs.moved_back.Statement.{statement}
 use Rattle.pattern.proofs.moved_back.Tie as tie
 
 -- the step, as the machine has it
 step-held : (c : tie.After-step) → toZ w64 (ofZ w64 (c .step .result)) ≡ stepOf (c .before .args .e) (c .before .args .b)
-step-held c =
-    let s = c .before in
-    ap (λ (z : ℤ). toZ w64 (ofZ w64 z)) (c .step .ensures) ∙ toZ-ofZ (step-fits (s .args .e) (s .pre .0) (s .args .b))
+step-held c = told (c .step .result) (c .step .ok) ∙ c .step .ensures
 
 step-requires : tie.Need-step-requires
 step-requires c κs = search needs

@@ -1,52 +1,62 @@
--- `pattern::sweep` meets its contract. The loop's invariant: what is found from the start is what is found from place i on.
+-- `pattern::sweep` meets its contract. The loop's invariant: x is within the room, and what is scanned from there on is what is scanned from `from` on.
 -- Assumes nothing.
-use Prim.Native.Nat.{_-_, _≤_, _<_}
+use Prim.Native.Nat.{_+_, _-_, _*_, _≤_, _<_}
 use native.Mathlib.Omega.{arith}
-use mathlib.Core.Path.{_≡_, sym, ap, _∙_}
-use lib.IntN.{ℤ, pos}
+use mathlib.Core.Path.{_≡_, refl, ap, _∙_}
+use lib.IntN.{pos, _+ℤ_}
 use lib.ListN.{length, drop, getD, drop-of-length-le}
-use mir.Syntax.{w64}
-use mir.Val.{toZ}
-use Rattle.whole.proofs.Machine.{told}
-use Rattle.envelope.proofs.Held.{K-held}
-use Rattle.pattern.specs.Pattern.{longest}
-use Rattle.pattern.specs.Scan.{Near, sweptFrom}
-use Rattle.pattern.proofs.Offsets.{near-start, near-more}
-use Rattle.pattern.proofs.Loops.{plain-before, on-held, near-turn, sweep-turn}
+use Rattle.envelope.specs.Limits.{lMost}
+use Rattle.envelope.proofs.Held.{n-small}
+use Rattle.pattern.specs.Scan.{scanned, floorOf}
+use Rattle.pattern.proofs.Offsets.{product-most}
+use Rattle.pattern.proofs.Loops.{plain-before, scan-turn}
+use Rattle.pattern.proofs.Sweeps.{on-floor, may-floor, room-small, not-wrapped}
 use Rattle.pattern.proofs.sweep.Statement.{statement}
 use Rattle.pattern.proofs.sweep.Tie as tie
 
 abbrev Inv-loop : tie.InvT-loop
-Inv-loop e pattern least₀ most₀ d₀ i₀ least most d i =
+Inv-loop e room pattern from start x₀ i₀ x i =
     (i ≤ length pattern)
-    × Near i (toZ w64 d)
-    × (sweptFrom e (e .K) (pos 0) (pos 0) pattern ≡ sweptFrom e (toZ w64 least) (toZ w64 most) (toZ w64 d) (drop i pattern))
+    × (x ≤ room)
+    × (scanned e from (pos start +ℤ floorOf e) (drop from pattern) ≡ scanned e i (pos x +ℤ floorOf e) (drop i pattern))
 
 abbrev μ-loop : tie.MeasureT-loop
-μ-loop e pattern least₀ most₀ d₀ i₀ least most d i = length pattern - i
+μ-loop e room pattern from start x₀ i₀ x i = length pattern - i
+
+-- the room is small
+small : (s : tie.Start Inv-loop μ-loop) → s .args .room ≤ 2_001_000_000
+small s = room-small (s .args .e) (s .pre .0 .0) (s .args .room) (s .pre .1 .0)
 
 loop-holds : tie.Need-loop-holds Inv-loop μ-loop
-loop-holds c =
-    let s = c .before .before in
-    (omega arith, near-start, ap (λ (z : ℤ). sweptFrom (s .args .e) z (pos 0) (pos 0) (s .args .pattern .now)) (sym (K-held (s .args .e) (s .pre .0 .limits))))
+loop-holds c = let s = c .before in (s .pre .0 .2, s .pre .1 .1, refl)
 
-shared-slice-read-b : tie.Need-shared-slice-read-b Inv-loop μ-loop
-shared-slice-read-b c = omega arith
+add-wrapping-sub-u64 : tie.Need-add-wrapping-sub-u64 Inv-loop μ-loop
+add-wrapping-sub-u64 c = let s = c .before .before .before .before in omega (arith, small s, n-small (s .args .e) (s .pre .0 .0))
 
-least-with-requires : tie.Need-least-with-requires Inv-loop μ-loop
-least-with-requires c κs = tt
+shared-slice-read-wrapping-sub-u64 : tie.Need-shared-slice-read-wrapping-sub-u64 Inv-loop μ-loop
+shared-slice-read-wrapping-sub-u64 c = omega arith
 
-moved-on-requires : tie.Need-moved-on-requires Inv-loop μ-loop
-moved-on-requires c κs =
-    let l = c .before .before .before in
-    let s = l .before .before .before in (
-      s .pre .0,
-      near-more (l .loop .i) longest (toZ w64 (l .loop .d)) (omega arith) (l .loop .inv .1),
-      plain-before (s .args .pattern .now) (l .loop .i) (omega arith),
-    )
+-- the byte is a bit
+bit : (l : tie.At-loop Inv-loop μ-loop) → l .loop .i < length (l .before .before .args .pattern .now) → getD (l .before .before .args .pattern .now) (l .loop .i) 0 ≤ 1
+bit l h = let s = l .before .before in plain-before (s .args .pattern .now) (l .loop .i) (omega (arith, s .pre .0 .1, h))
 
-larger-of-requires : tie.Need-larger-of-requires Inv-loop μ-loop
-larger-of-requires c κs = tt
+-- what it takes is small
+fall : (l : tie.At-loop Inv-loop μ-loop) → l .loop .i < length (l .before .before .args .pattern .now) → l .before .before .args .e .l * getD (l .before .before .args .pattern .now) (l .loop .i) 0 ≤ lMost
+fall l h = let s = l .before .before in product-most (s .args .e) (s .pre .0 .0) (getD (s .args .pattern .now) (l .loop .i) 0) (bit l h)
+
+cast-wrapping-sub-u64 : tie.Need-cast-wrapping-sub-u64 Inv-loop μ-loop
+cast-wrapping-sub-u64 c = omega (arith, bit (c .before .before .before) (c .before .before .loop-test .taken))
+
+mul-wrapping-sub-u64 : tie.Need-mul-wrapping-sub-u64 Inv-loop μ-loop
+mul-wrapping-sub-u64 c =
+    let l = c .before .before .before .before in
+    omega (arith, fall l (c .before .before .before .loop-test .taken))
+
+wrapping-sub-u64-requires : tie.Need-wrapping-sub-u64-requires Inv-loop μ-loop
+wrapping-sub-u64-requires c κs = tt
+
+returns : tie.Need-returns Inv-loop μ-loop
+returns c h = absurd (let k = c .if1 .taken in omega arith)
 
 add-i : tie.Need-add-i Inv-loop μ-loop
 add-i c = omega arith
@@ -56,32 +66,29 @@ loop-less c = omega arith
 
 loop-again : tie.Need-loop-again Inv-loop μ-loop
 loop-again c =
-    let w = c .before .before in
-    let l = w .before .before .before in
-    let s = l .before .before .before in
+    let w = c .before in
+    let l = w .before .before .before .before .before in
+    let s = l .before .before in
     let e = s .args .e in
     let p = s .args .pattern .now in
     let i = l .loop .i in
-    let d = toZ w64 (l .loop .d) in
+    let x = l .loop .x in
+    let y = w .wrapping-sub-u64 .result in
+    let there = w .before .before .before .before .loop-test .taken in
     let b = getD p i 0 in
-    let r = c .before .moved-on .result in
-    let short : i < longest = omega arith in
-    let held = on-held e (s .pre .0) i d b r (l .loop .inv .1) short (c .before .moved-on .ensures) in (
+    let on = not-wrapped y (e .l * b) (x + e .n) (w .wrapping-sub-u64 .ensures) (omega (arith, small s, c .if1 .left)) (fall l there) in (
       omega arith,
-      near-turn e (s .pre .0) i d b r (l .loop .inv .1) short (c .before .moved-on .ensures),
+      c .if1 .left,
       l .loop .inv .2
-          ∙ sweep-turn e p i d (w .before .before .loop-test .taken) _ held _ _ _ _
-          (told (w .least-with .result) (w .least-with .ok) ∙ w .least-with .ensures)
-          (told (c .larger-of .result) (c .larger-of .ok) ∙ c .larger-of .ensures),
+          ∙ scan-turn e p i (pos x +ℤ floorOf e) there _ (on-floor e x y b (bit l there) on) (may-floor e x y (s .args .room) (s .pre .1 .0) (l .loop .inv .1) (c .if1 .left) b (bit l there) on),
     )
 
-returns : tie.Need-returns Inv-loop μ-loop
-returns c =
+returns-2 : tie.Need-returns-2 Inv-loop μ-loop
+returns-2 c h =
     let l = c .before in
-    let a = l .before .before .before .args in
-    sym
-    (l .loop .inv .2
-    ∙ ap (sweptFrom (a .e) (toZ w64 (l .loop .least)) (toZ w64 (l .loop .most)) (toZ w64 (l .loop .d))) (drop-of-length-le (a .pattern .now) {i = l .loop .i} (c .loop-test .left)))
+    let a = l .before .before .args in
+    l .loop .inv .2
+    ∙ ap (scanned (a .e) (l .loop .i) (pos (l .loop .x) +ℤ floorOf (a .e))) (drop-of-length-le (a .pattern .now) {i = l .loop .i} (c .loop-test .left))
 
 pub sweep-spec : {M : Type 1} → statement M
 sweep-spec =
@@ -90,11 +97,13 @@ sweep-spec =
     Inv-loop
     μ-loop
     loop-holds
-    shared-slice-read-b
-    least-with-requires
-    moved-on-requires
-    larger-of-requires
+    add-wrapping-sub-u64
+    shared-slice-read-wrapping-sub-u64
+    cast-wrapping-sub-u64
+    mul-wrapping-sub-u64
+    wrapping-sub-u64-requires
+    returns
     add-i
     loop-less
     loop-again
-    returns)
+    returns-2)
