@@ -1,5 +1,14 @@
 //! The proved library against plain Rust, in one run: both do the same calls on the same inputs, in turns.
 
+// 16 bytes before all other code, kept by the flag R.
+#[cfg(feature = "shifted")]
+std::arch::global_asm!(
+    ".pushsection .text.unlikely.shift, \"axR\", @progbits",
+    ".p2align 4",
+    ".skip 16, 0x90",
+    ".popsection"
+);
+
 mod ours;
 mod rows;
 mod same;
@@ -29,32 +38,25 @@ fn calls_in_a_round(call: &mut dyn FnMut()) -> u32 {
     calls
 }
 
-/// The values at a quarter, at the middle and at three quarters.
-fn quarters(mut values: Vec<f64>) -> [f64; 3] {
+fn middle(mut values: Vec<f64>) -> f64 {
     values.sort_by(f64::total_cmp);
-    [1, 2, 3].map(|quarter| values[values.len() * quarter / 4])
+    values[values.len() / 2]
 }
 
-/// The middle times of both sides, and the quarters of the rounds' ratios.
+/// The middle times of both sides, over rounds that take turns.
 fn time(row: &mut Row) {
     let [our_calls, rust_calls] = [&mut row.ours, &mut row.rust].map(|call| calls_in_a_round(call));
-    let (mut ours, mut rust, mut ratios) = (Vec::new(), Vec::new(), Vec::new());
+    let (mut ours, mut rust) = (Vec::new(), Vec::new());
     for _ in 0..ROUNDS {
-        let (a, b) = (
-            round(our_calls, &mut row.ours),
-            round(rust_calls, &mut row.rust),
-        );
-        ours.push(a);
-        rust.push(b);
-        ratios.push(a / b);
+        ours.push(round(our_calls, &mut row.ours));
+        rust.push(round(rust_calls, &mut row.rust));
     }
-    let ([_, ours, _], [_, rust, _]) = (quarters(ours), quarters(rust));
-    let [low, middle, high] = quarters(ratios);
     println!(
-        "{:<34} {:>6} {ours:>10.0} {rust:>10.0} {:>7.2} {middle:>6.2}   {low:.2} to {high:.2}",
+        "{}\t{}\t{:.0}\t{:.0}",
         row.name,
         row.bytes,
-        ours / row.bytes as f64
+        middle(ours),
+        middle(rust)
     );
 }
 
@@ -76,16 +78,10 @@ fn calls(words: &[String]) -> Option<()> {
 fn main() -> ExitCode {
     let words: Vec<String> = env::args().skip(1).collect();
     match words.first().map(String::as_str) {
-        None => {
-            println!(
-                "{:<34} {:>6} {:>10} {:>10} {:>7} {:>6}   middle half",
-                "nanoseconds per call", "bytes", "ours", "Rust", "a byte", "ratio"
-            );
-            rows::all().iter_mut().for_each(time);
-        }
+        None => rows::all().iter_mut().for_each(time),
         Some("--rows") => rows::all()
             .iter()
-            .for_each(|row| println!("{}\t{}", row.bytes, row.name)),
+            .for_each(|row| println!("{}\t{}", row.name, row.bytes)),
         Some("--calls") if calls(&words[1..]).is_some() => {}
         Some(_) => {
             eprintln!("usage: bench [--rows | --calls ROW ours|rust COUNT]");

@@ -1,7 +1,7 @@
 -- What a sweep finds: an offset is held as what it is above the floor, and within the room every step may be taken.
 -- Assumes nothing.
 use Prim.Native.Nat.{ℕ, zero, suc, _+_, _*_, _%_, _^_, _≤_}
-use native.Mathlib.Nat.{mul-suc, mul-zero, mul-one, mul-le-mul-left, add-zero, add-suc, suc-add, zero-add, mod-eq-of-lt}
+use native.Mathlib.Nat.{mul-suc, mul-zero, mul-one, mul-le-mul-left, add-zero, add-suc, suc-add, zero-add, add-assoc, mod-eq-of-lt, mod-add-mod, add-mod-mod}
 use native.Mathlib.Omega.{arith}
 use mathlib.Core.Path.{_≡_, sym, ap, subst, _∙_}
 use mathlib.Core.Bool.{true, false}
@@ -10,6 +10,7 @@ use lib.IntN.{ℤ, pos, _+ℤ_}
 use lib.ListN.{drop}
 use lib.Signed.{leZ, ltZ, _≤ℤ_}
 use Rattle.whole.proofs.Bridge.{up, down, sum, diff, whole-ext, ltZ-false, ≤ℤ-reads, ≤ℤ-shows}
+use Rattle.envelope.specs.Limits.{lMost}
 use Rattle.envelope.specs.declared.Envelope.{Envelope}
 use Rattle.envelope.specs.Envelope.{Taken}
 use Rattle.envelope.proofs.Held.{k-up, k-down, K-up, K-down}
@@ -77,6 +78,13 @@ pub within-room : (r room : ℕ) (low x top : ℤ) → pos r +ℤ low ≡ x → 
 within-room r room low x top p q h =
     omega (arith, sum (pos r) low, sum (pos room) low, ap up p, ap down p, ap up q, ap down q, ≤ℤ-reads h)
 
--- a difference that wrapped would be large
-pub not-wrapped : (r b a : ℕ) → (r + b) % 2 ^ 64 ≡ a → r ≤ 2_001_000_000 → b ≤ 1_000_000 → r + b ≡ a
-not-wrapped r b a q h k = sym (mod-eq-of-lt (omega arith)) ∙ q
+-- a step of n - b and then the sum, both of which may wrap: a result that is small has not gone below 0
+pub not-wrapped : (r x step b n : ℕ) → r ≡ (x + step) % 2 ^ 64 → (step + b) % 2 ^ 64 ≡ n → r ≤ 2_001_000_000 → x ≤ 2_001_000_000 → b ≤ lMost → n ≤ lMost → r + b ≡ x + n
+not-wrapped r x step b n q s hr hx hb hn =
+    sym (mod-eq-of-lt {n = r + b} {m = 2 ^ 64} (omega arith))
+    ∙ ap (λ (z : ℕ). (z + b) % 2 ^ 64) q
+    ∙ mod-add-mod (x + step) (2 ^ 64) b
+    ∙ ap (λ (z : ℕ). z % 2 ^ 64) (add-assoc x step b)
+    ∙ sym (add-mod-mod x (step + b) (2 ^ 64))
+    ∙ ap (λ (z : ℕ). (x + z) % 2 ^ 64) s
+    ∙ mod-eq-of-lt {n = x + n} {m = 2 ^ 64} (omega arith)

@@ -142,7 +142,7 @@ fn above(x: i64, low: i64) -> u64
 }
 
 // From place `from` on, where n*i - l*j is `start` above the floor: how far above it the pattern ends, or, where it is outside, more than
-// the room. One test a bit, of a number that wraps below the floor.
+// the room. One sum and one test a bit, since what is below the floor wraps and is large.
 fn sweep(e: Envelope, room: u64, pattern: &[u8], from: usize, start: u64) -> u64
     requires { ⌜ Taken e × (length (now pattern) ≤ plain (now pattern)) × (from ≤ length (now pattern)) ⌝ }
     requires { ⌜ (pos room +ℤ floorOf e ≡ e .K) × (start ≤ room) ⌝ }
@@ -151,7 +151,8 @@ fn sweep(e: Envelope, room: u64, pattern: &[u8], from: usize, start: u64) -> u64
     let mut x = start;
     let mut i = from;
     while i < pattern.len() {
-        x = std::num::wrapping_sub_u64(x + e.n, e.l * (pattern[i] as u64));
+        let step = std::num::wrapping_sub_u64(e.n, e.l * (pattern[i] as u64));
+        x = std::num::wrapping_add_u64(x, step);
         if room < x {
             return x;
         }

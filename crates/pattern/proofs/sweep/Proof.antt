@@ -1,6 +1,6 @@
 -- `pattern::sweep` meets its contract. The loop's invariant: x is within the room, and what is scanned from there on is what is scanned from `from` on.
 -- Assumes nothing.
-use Prim.Native.Nat.{_+_, _-_, _*_, _≤_, _<_}
+use Prim.Native.Nat.{_-_, _*_, _≤_, _<_}
 use native.Mathlib.Omega.{arith}
 use mathlib.Core.Path.{_≡_, refl, ap, _∙_}
 use lib.IntN.{pos, _+ℤ_}
@@ -30,9 +30,6 @@ small s = room-small (s .args .e) (s .pre .0 .0) (s .args .room) (s .pre .1 .0)
 loop-holds : tie.Need-loop-holds Inv-loop μ-loop
 loop-holds c = let s = c .before in (s .pre .0 .2, s .pre .1 .1, refl)
 
-add-wrapping-sub-u64 : tie.Need-add-wrapping-sub-u64 Inv-loop μ-loop
-add-wrapping-sub-u64 c = let s = c .before .before .before .before in omega (arith, small s, n-small (s .args .e) (s .pre .0 .0))
-
 shared-slice-read-wrapping-sub-u64 : tie.Need-shared-slice-read-wrapping-sub-u64 Inv-loop μ-loop
 shared-slice-read-wrapping-sub-u64 c = omega arith
 
@@ -45,15 +42,18 @@ fall : (l : tie.At-loop Inv-loop μ-loop) → l .loop .i < length (l .before .be
 fall l h = let s = l .before .before in product-most (s .args .e) (s .pre .0 .0) (getD (s .args .pattern .now) (l .loop .i) 0) (bit l h)
 
 cast-wrapping-sub-u64 : tie.Need-cast-wrapping-sub-u64 Inv-loop μ-loop
-cast-wrapping-sub-u64 c = omega (arith, bit (c .before .before .before) (c .before .before .loop-test .taken))
+cast-wrapping-sub-u64 c = omega (arith, bit (c .before .before) (c .before .loop-test .taken))
 
 mul-wrapping-sub-u64 : tie.Need-mul-wrapping-sub-u64 Inv-loop μ-loop
 mul-wrapping-sub-u64 c =
-    let l = c .before .before .before .before in
-    omega (arith, fall l (c .before .before .before .loop-test .taken))
+    let l = c .before .before .before in
+    omega (arith, fall l (c .before .before .loop-test .taken))
 
 wrapping-sub-u64-requires : tie.Need-wrapping-sub-u64-requires Inv-loop μ-loop
 wrapping-sub-u64-requires c κs = tt
+
+wrapping-add-u64-requires : tie.Need-wrapping-add-u64-requires Inv-loop μ-loop
+wrapping-add-u64-requires c κs = tt
 
 returns : tie.Need-returns Inv-loop μ-loop
 returns c h = absurd (let k = c .if1 .taken in omega arith)
@@ -67,16 +67,17 @@ loop-less c = omega arith
 loop-again : tie.Need-loop-again Inv-loop μ-loop
 loop-again c =
     let w = c .before in
-    let l = w .before .before .before .before .before in
+    let v = w .before in
+    let l = v .before .before .before .before in
     let s = l .before .before in
     let e = s .args .e in
     let p = s .args .pattern .now in
     let i = l .loop .i in
     let x = l .loop .x in
-    let y = w .wrapping-sub-u64 .result in
-    let there = w .before .before .before .before .loop-test .taken in
+    let y = w .wrapping-add-u64 .result in
+    let there = v .before .before .before .loop-test .taken in
     let b = getD p i 0 in
-    let on = not-wrapped y (e .l * b) (x + e .n) (w .wrapping-sub-u64 .ensures) (omega (arith, small s, c .if1 .left)) (fall l there) in (
+    let on = not-wrapped y x (v .wrapping-sub-u64 .result) (e .l * b) (e .n) (w .wrapping-add-u64 .ensures) (v .wrapping-sub-u64 .ensures) (omega (arith, small s, c .if1 .left)) (omega (arith, small s, l .loop .inv .1)) (fall l there) (n-small e (s .pre .0 .0)) in (
       omega arith,
       c .if1 .left,
       l .loop .inv .2
@@ -97,11 +98,11 @@ sweep-spec =
     Inv-loop
     μ-loop
     loop-holds
-    add-wrapping-sub-u64
     shared-slice-read-wrapping-sub-u64
     cast-wrapping-sub-u64
     mul-wrapping-sub-u64
     wrapping-sub-u64-requires
+    wrapping-add-u64-requires
     returns
     add-i
     loop-less
