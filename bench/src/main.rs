@@ -20,7 +20,7 @@ use std::time::{Duration, Instant};
 
 /// How long one round of calls takes, and how many rounds each side has.
 const ROUND: Duration = Duration::from_millis(5);
-const ROUNDS: usize = 61;
+const ROUNDS: usize = 15;
 
 /// Nanoseconds for each of so many calls.
 fn round(calls: u32, call: &mut dyn FnMut()) -> f64 {
@@ -38,26 +38,15 @@ fn calls_in_a_round(call: &mut dyn FnMut()) -> u32 {
     calls
 }
 
-fn middle(mut values: Vec<f64>) -> f64 {
-    values.sort_by(f64::total_cmp);
-    values[values.len() / 2]
-}
-
-/// The middle times of both sides, over rounds that take turns.
+/// The least times of both sides, over rounds that take turns.
 fn time(row: &mut Row) {
     let [our_calls, rust_calls] = [&mut row.ours, &mut row.rust].map(|call| calls_in_a_round(call));
-    let (mut ours, mut rust) = (Vec::new(), Vec::new());
+    let (mut ours, mut rust) = (f64::MAX, f64::MAX);
     for _ in 0..ROUNDS {
-        ours.push(round(our_calls, &mut row.ours));
-        rust.push(round(rust_calls, &mut row.rust));
+        ours = ours.min(round(our_calls, &mut row.ours));
+        rust = rust.min(round(rust_calls, &mut row.rust));
     }
-    println!(
-        "{}\t{}\t{:.0}\t{:.0}",
-        row.name,
-        row.bytes,
-        middle(ours),
-        middle(rust)
-    );
+    println!("{}\t{}\t{ours:.1}\t{rust:.1}", row.name, row.bytes);
 }
 
 /// So many calls of one side of one row, for a program that counts instructions.
