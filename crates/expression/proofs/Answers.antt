@@ -10,14 +10,14 @@ use native.Mathlib.Omega.{arith}
 use lib.IntN.{ℤ}
 use lib.ListN.{length, getElem?}
 use Rattle.reply.specs.Numbers.{unknown, absent, tooDeep}
-use Rattle.field.specs.Read.{Read, Read.got, Read.refused, bind}
+use Rattle.field.specs.Read.{Read, Read.got, Read.refused, bind, mapped}
 use Rattle.field.specs.Field.{fieldIn}
 use Rattle.field.proofs.Fields.{There, field-there}
 use Rattle.envelope.specs.declared.Node.{Node}
 use Rattle.envelope.specs.Envelope.{Taken}
 use Rattle.envelope.specs.Made.{negatedOf, joinedOf}
 use Rattle.expression.specs.Evaluate.{worthOf, listed}
-use Rattle.expression.specs.Reader.{exprAt, mapped, nodeIn}
+use Rattle.expression.specs.Reader.{exprAt, nodeIn}
 use Rattle.expression.specs.Table.{Holds, nodesIn, nodeAt}
 use Rattle.expression.specs.Parts.{placed, listedAt, declaredAt}
 use Rattle.expression.proofs.Tables.{nodes-many, node-at}

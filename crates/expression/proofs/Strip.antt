@@ -5,14 +5,14 @@ use mathlib.Core.List.{List}
 use Prim.Native.Nat.{ℕ, zero, suc, _+_}
 use lib.ListN.{length, getElem?}
 use Rattle.reply.specs.Numbers.{beyond, unknown, absent, tooDeep}
-use Rattle.field.specs.Read.{Read, Read.got, Read.refused, bind}
+use Rattle.field.specs.Read.{Read, Read.got, Read.refused, bind, mapped}
 use Rattle.field.specs.Field.{fieldIn, signedIn}
 use Rattle.envelope.specs.declared.Node.{Node}
 use Rattle.envelope.specs.Limits.{lMost, lowerLeast, lowerMost, upperLeast, upperMost}
 use Rattle.envelope.specs.Made.{negatedOf, joinedOf}
 use Rattle.expression.specs.Expression.{Expr}
 use Rattle.expression.specs.Evaluate.{Worth, Worth.whole, Worth.fault, worthOf, listed, declaredWorth}
-use Rattle.expression.specs.Reader.{Valued, place, node, exprAt, mapped, nodeIn}
+use Rattle.expression.specs.Reader.{Valued, place, node, exprAt, nodeIn}
 use Rattle.expression.specs.Parts.{placed, declaredAt}
 
 -- a node of a list, by the index at a

@@ -46,11 +46,6 @@ unfoldable pub exprAt : ℕ → List ℕ → List Node → List Node → ℕ →
 exprAt zero s ws cs a = bind (fieldIn 1 1 6 unknown s a) λ tag c. refused tooDeep a
 exprAt (suc d) s ws cs a = bind (fieldIn 1 1 6 unknown s a) λ tag c. node s ws cs (exprAt d s ws cs) a tag c
 
--- what was read, seen through f
-abbrev pub mapped : {A B : Type 0} → (A → B) → Read A → Read B
-mapped f (got x c) = got (f x) c
-mapped f (refused number place) = refused number place
-
 -- the code keeps no expression, only its node
 abbrev pub nodeIn : Valued → Node
 nodeIn x = x .node

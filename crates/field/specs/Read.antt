@@ -12,6 +12,11 @@ abbrev pub bind : {A B : Type 0} → Read A → (A → ℕ → Read B) → Read 
 bind (got x place) next = next x place
 bind (refused number place) next = refused number place
 
+-- what was read, seen through f
+abbrev pub mapped : {A B : Type 0} → (A → B) → Read A → Read B
+mapped f (got x place) = got (f x) place
+mapped f (refused number place) = refused number place
+
 -- the first where the test holds, else the second
 abbrev pub pick : {A : Type 0} → Bool → A → A → A
 pick true x y = x

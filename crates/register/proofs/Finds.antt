@@ -9,7 +9,7 @@ use native.Mathlib.Omega.{arith}
 use lib.ListN.{length, getD, getElem?}
 use borrow.Author.Tests.{eq-eqb, ne-eqb}
 use Rattle.reply.specs.Numbers.{noClock, alreadyClosed}
-use Rattle.field.specs.Read.{Read, Read.got, Read.refused}
+use Rattle.field.specs.Read.{Read, Read.got, Read.refused, mapped}
 use Rattle.field.specs.Spelling.{AllBytes, Bytes}
 use Rattle.field.specs.Field.{fieldOf}
 use Rattle.field.specs.declared.Field.{Field}
@@ -17,7 +17,6 @@ use Rattle.field.specs.declared.Cursor.{Cursor}
 use Rattle.field.proofs.Read.{through, refused-got}
 use Rattle.field.proofs.Spelling.{end}
 use Rattle.expression.specs.Expression.{Clock, spellWord, spellClock}
-use Rattle.expression.specs.Reader.{mapped}
 use Rattle.expression.proofs.Lookup.{lookup-there}
 use Rattle.sheet.specs.declared.Found.{Found}
 use Rattle.sheet.specs.declared.Reading.{Reading}

@@ -3,7 +3,6 @@ pub mod Places
 pub mod Skips
 pub mod Sheets
 pub mod LinkStates
-pub mod Numbers
 pub mod Closes
 pub mod Quotes
 pub mod Finds

@@ -10,6 +10,7 @@ use Rattle.field.specs.Read.{Read, Read.got, Read.refused}
 use Rattle.field.specs.Spelling.{AllBytes}
 use Rattle.expression.specs.Expression.{Clock}
 use Rattle.sheet.specs.Reader.{Opened, readSheet}
+use Rattle.sheet.proofs.Numbers.{one-to-ten}
 use Rattle.sheet.proofs.Sheets.{sheet-reads}
 use Rattle.register.specs.declared.Closing.{Closing}
 use Rattle.register.specs.declared.QuoteReply.{QuoteReply}
@@ -17,7 +18,6 @@ use Rattle.register.specs.Locating.{clockPlace}
 use Rattle.register.specs.Closing.{closingOf, closingReply, numberOf, replyPlace, closedBytes}
 use Rattle.register.specs.Quoting.{quotingOf, quotedFrom, quotedPart, quoteReply}
 use Rattle.register.specs.Promise.{OneClosed, Closes, ClosePromise, Quotes, QuotePromise, NoSecondReply}
-use Rattle.register.proofs.Numbers.{one-to-ten}
 use Rattle.register.proofs.Closes.{past-the-last, closing-refused, closing-absent, closing-already, closing-open, one-closed}
 use Rattle.register.proofs.Quotes.{quoting-refused, quoting-absent, quoted}
 

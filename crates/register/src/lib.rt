@@ -2,7 +2,7 @@
 ghost use mathlib.Core.Path.{_≡_};
 ghost use Prim.Native.Nat.{ℕ, _+_};
 ghost use Rattle.field.specs.Field.{fieldOf};
-ghost use Rattle.expression.specs.Reader.{mapped};
+ghost use Rattle.field.specs.Read.{mapped};
 ghost use Rattle.sheet.specs.Sheet.{Sheet};
 ghost use Rattle.register.specs.Locating.{clockPlace, placeOf, locatedIn};
 ghost use Rattle.register.specs.Skipping.{ownBytes, partsOf, HasExpr, HasClocks};

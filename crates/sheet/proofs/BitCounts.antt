@@ -11,7 +11,7 @@ use lib.ListN.{length, take, drop, length-append}
 use lib.Seq.{take-at, drop-at}
 use borrow.Author.Tests.{le-leb}
 use Rattle.reply.specs.Numbers.{unknown, noOne}
-use Rattle.field.specs.Read.{Read, Read.got, Read.refused, bind, pick}
+use Rattle.field.specs.Read.{Read, Read.got, Read.refused, bind, pick, mapped}
 use Rattle.field.specs.Spelling.{AllBytes}
 use Rattle.field.specs.Field.{fieldIn}
 use Rattle.field.proofs.Fields.{field-there}
@@ -19,7 +19,6 @@ use Rattle.field.proofs.Spelling.{join, end, part}
 use Rattle.envelope.specs.Stream.{value}
 use Rattle.envelope.specs.Word.{onesIn, wordOf}
 use Rattle.envelope.specs.Made.{nodeOf}
-use Rattle.expression.specs.Reader.{mapped}
 use Rattle.sheet.specs.Reader.{bitsAt}
 use Rattle.sheet.specs.Sections.{wordBits}
 use Rattle.sheet.proofs.Words.{bits-reads}

@@ -9,14 +9,14 @@ use lib.IntN.{ℤ}
 use lib.ListN.{length, take, set}
 use lib.Seq.{sets}
 use Rattle.reply.specs.Numbers.{unknown}
-use Rattle.field.specs.Read.{Read, Read.got, Read.refused, bind}
+use Rattle.field.specs.Read.{Read, Read.got, Read.refused, bind, mapped}
 use Rattle.field.specs.Field.{fieldIn, fieldOf}
 use Rattle.field.specs.declared.Field.{Field}
 use Rattle.field.proofs.Read.{refused-got, through}
 use Rattle.envelope.specs.declared.Node.{Node}
 use Rattle.envelope.specs.Envelope.{Taken}
 use Rattle.expression.specs.Expression.{depthMost}
-use Rattle.expression.specs.Reader.{Valued, exprAt, mapped, nodeIn}
+use Rattle.expression.specs.Reader.{Valued, exprAt, nodeIn}
 use Rattle.expression.specs.Table.{flat, nodesIn, Holds}
 use Rattle.expression.proofs.Answers.{answer, answer-taken}
 use Rattle.sheet.specs.Reader.{rowsAt, ClockNode, nodeOfClock, clockAt}

@@ -6,6 +6,7 @@ pub mod Worked
 pub mod Sheets
 pub mod FirstFault
 pub mod Faults
+pub mod Numbers
 pub mod Served
 pub mod Promise
 pub mod Readings

@@ -14,7 +14,7 @@ use Rattle.reply.specs.Numbers.{beyond, absent}
 use Rattle.whole.specs.Rounding.{ceilDiv}
 use Rattle.whole.proofs.Bridge.{up, orders, up-mul, down-mul, up-diff-le}
 use Rattle.whole.proofs.Rounding.{ceil-least}
-use Rattle.field.specs.Read.{Read, Read.got, Read.refused}
+use Rattle.field.specs.Read.{Read, Read.got, Read.refused, mapped}
 use Rattle.field.specs.Field.{fieldIn}
 use Rattle.field.proofs.Read.{through}
 use Rattle.field.proofs.Fields.{field-there}
@@ -27,7 +27,6 @@ use Rattle.link.specs.declared.Verdict.the-variants.{Accepted, Rates, Early}
 use Rattle.link.specs.declared.Row.{Row}
 use Rattle.link.specs.Link.{sizeOf, verdictOf, numberOf, sizeIn, stateOf, openSizeOf, Passes}
 use Rattle.link.proofs.Links.{size-least, accepted-is}
-use Rattle.expression.specs.Reader.{mapped}
 use Rattle.expression.specs.Table.{nodesIn, nodeAt, AllTaken, Holds}
 use Rattle.expression.proofs.Tables.{node-at}
 use Rattle.sheet.specs.Sheet.{Link, linksMost}

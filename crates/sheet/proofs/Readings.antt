@@ -8,11 +8,10 @@ use native.Mathlib.Numerals.{sub-one}
 use native.Mathlib.Omega.{arith}
 use lib.ListN.{length, length-append}
 use Rattle.reply.specs.Numbers.{beyond}
-use Rattle.field.specs.Read.{Read, Read.got, Read.refused, bind}
+use Rattle.field.specs.Read.{Read, Read.got, Read.refused, bind, mapped}
 use Rattle.field.specs.Field.{fieldIn}
 use Rattle.field.proofs.Read.{refused-got, through}
 use Rattle.field.proofs.Fields.{field-there}
-use Rattle.expression.specs.Reader.{mapped}
 use Rattle.sheet.specs.Reader.{rowsAt, sectionAt}
 
 -- ---- what was read, seen through f

@@ -9,7 +9,7 @@ use lib.Dec.{eqb}
 use lib.ListN.{length, take, length-map}
 use borrow.Author.Tests.{lt-leb, eq-eqb, ne-eqb}
 use Rattle.reply.specs.Numbers.{beyond, trailing}
-use Rattle.field.specs.Read.{Read, Read.got, Read.refused, pick}
+use Rattle.field.specs.Read.{Read, Read.got, Read.refused, pick, mapped}
 use Rattle.field.specs.Spelling.{AllBytes}
 use Rattle.field.specs.Field.{fieldIn, fieldOf}
 use Rattle.field.specs.declared.Cursor.{Cursor}
@@ -19,7 +19,6 @@ use Rattle.field.proofs.Fields.{There, field-there}
 use Rattle.envelope.specs.declared.Node.{Node}
 use Rattle.expression.specs.Expression.{Word, spellWord, spellClock}
 use Rattle.expression.specs.Evaluate.{wordNode, wordNodes}
-use Rattle.expression.specs.Reader.{mapped}
 use Rattle.expression.specs.Table.{flats, nodesIn, Holds}
 use Rattle.sheet.specs.declared.Found.{Found}
 use Rattle.sheet.specs.declared.Reading.{Reading}

@@ -9,7 +9,7 @@ use lib.Dec.{leb}
 use lib.ListN.{length}
 use lib.Seq.{sets}
 use Rattle.reply.specs.Numbers.{beyond, noOne}
-use Rattle.field.specs.Read.{Read, Read.got, Read.refused, bind, pick}
+use Rattle.field.specs.Read.{Read, Read.got, Read.refused, bind, pick, mapped}
 use Rattle.field.specs.Spelling.{AllBytes}
 use Rattle.field.specs.Field.{fieldIn, fieldOf}
 use Rattle.field.specs.declared.Field.{Field}
@@ -20,7 +20,6 @@ use Rattle.envelope.specs.Made.{nodeOf}
 use Rattle.envelope.proofs.Taken.{word-taken}
 use Rattle.expression.specs.Expression.{Word}
 use Rattle.expression.specs.Evaluate.{wordNode}
-use Rattle.expression.specs.Reader.{mapped}
 use Rattle.expression.specs.Table.{flat}
 use Rattle.sheet.specs.Sheet.{wordsMost}
 use Rattle.sheet.specs.Reader.{rowsAt, bitsAt, wordAt}

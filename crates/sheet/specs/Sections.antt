@@ -6,7 +6,7 @@ use lib.IntN.{ℤ}
 use lib.Dec.{leb}
 use lib.ListN.{length, getD, take}
 use Rattle.reply.specs.Numbers.{unknown, noOne}
-use Rattle.field.specs.Read.{Read, Read.got, Read.refused, bind, pick}
+use Rattle.field.specs.Read.{Read, Read.got, Read.refused, bind, pick, mapped}
 use Rattle.field.specs.Field.{fieldIn, fieldOf}
 use Rattle.field.specs.declared.Field.{Field}
 use Rattle.envelope.specs.declared.Node.{Node}
@@ -16,7 +16,7 @@ use Rattle.link.specs.declared.Row.{Row}
 use Rattle.link.specs.Link.{stateOf, openSizeOf}
 use Rattle.expression.specs.Expression.{Word, Clock, depthMost, spellWord, spellClock}
 use Rattle.expression.specs.Evaluate.{wordNodes}
-use Rattle.expression.specs.Reader.{exprAt, mapped, nodeIn}
+use Rattle.expression.specs.Reader.{exprAt, nodeIn}
 use Rattle.expression.specs.Table.{flats, AllTaken, Holds}
 use Rattle.sheet.specs.declared.Marked.{Marked}
 use Rattle.sheet.specs.declared.Ends.{Ends}

@@ -8,7 +8,7 @@ use lib.ListN.{length}
 use lib.Seq.{take-length}
 use borrow.Author.Needs.{needs}
 use Rattle.field.specs.Field.{fieldOf}
-use Rattle.expression.specs.Reader.{mapped}
+use Rattle.field.specs.Read.{mapped}
 use Rattle.register.specs.Locating.{placeOf, locatedIn}
 use Rattle.register.proofs.Finds.{at-within, close-refused, close-already, close-open}
 use Rattle.register.proofs.close.Statement.{statement}
