@@ -46,3 +46,11 @@ decimal (negsuc n) = minus ∷ digits (suc n)
 -- a field that is not the line's first: fields are separated by one blank
 abbrev pub field : List ℕ → List ℕ
 field t = blank ∷ t
+
+-- at
+abbrev pub atWord : List ℕ
+atWord = 97 ∷ 116 ∷ []
+
+-- a word, a number, "at" and a place: "refused NUMBER at PLACE", "closed CLOCK at PLACE"
+unfoldable pub outcomeLine : List ℕ → ℕ → ℕ → List ℕ
+outcomeLine word number place = word ++ (field (digits number) ++ (field atWord ++ (field (digits place) ++ (lineFeed ∷ []))))

@@ -4,7 +4,7 @@ ghost use mathlib.Core.List.{[], _∷_};
 ghost use Prim.Native.Nat.{_+_, _≤_};
 ghost use lib.ListN.{length};
 ghost use lib.IntN.{natAbs};
-ghost use Rattle.line.specs.Text.{Put, digits, decimal, field};
+ghost use Rattle.line.specs.Text.{Put, digits, decimal, field, outcomeLine};
 
 pub const BLANK: u8 = 32;
 
@@ -116,4 +116,16 @@ pub fn put_decimal_field(out: &mut [u8], at: usize, z: i64) -> usize
 {
     let next = put_byte(out, at, BLANK);
     put_decimal(out, next, z)
+}
+
+// A word, a number, "at" and a place.
+pub fn put_outcome(out: &mut [u8], at: usize, word: &[u8], number: u64, place: u64) -> usize
+    requires { ⌜ at + length (outcomeLine (now word) number place) ≤ length (now out) ⌝ }
+    ensures { λ r. ⌜ Put (now (out .entry)) at (outcomeLine (now (word .entry)) number place) (now (out .exit)) r ⌝ }
+{
+    let a = put_bytes(out, at, word);
+    let b = put_digits_field(out, a, number);
+    let c = put_word_field(out, b, b"at");
+    let d = put_digits_field(out, c, place);
+    put_byte(out, d, LINE_FEED)
 }

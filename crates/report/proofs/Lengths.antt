@@ -8,7 +8,8 @@ use Rattle.link.specs.declared.Verdict.{Verdict}
 use Rattle.link.specs.declared.Row.{Row}
 use Rattle.link.specs.Link.{sizeIn}
 use Rattle.line.specs.Text.{digits, decimal}
-use Rattle.report.specs.Listing.{stateWord, verdictWord, envelopeFields, clockLine, verdictFields, linkLine, roomLine, refusedLine}
+use Rattle.line.proofs.Outcomes.{outcome-length}
+use Rattle.report.specs.Listing.{stateWord, verdictWord, envelopeFields, clockLine, verdictFields, linkLine, refusedWord, roomLine, refusedLine}
 
 pub envelope-length : (e : Envelope) → length (envelopeFields e) ≡ 4 + length (decimal (e .k)) + length (decimal (e .K)) + length (digits (e .l)) + length (digits (e .n))
 unfolding envelopeFields
@@ -33,4 +34,4 @@ room-length opened whole = simp length-append (omega arith)
 
 pub refused-length : (number place : ℕ) → length (refusedLine number place) ≡ 13 + length (digits number) + length (digits place)
 unfolding refusedLine
-refused-length number place = simp length-append (omega arith)
+refused-length number place = omega (arith, outcome-length refusedWord number place)

@@ -15,7 +15,7 @@ use Rattle.link.specs.Link.{sizeIn, openSizeOf}
 use Rattle.sheet.specs.Reader.{Opened, readSheet}
 use Rattle.sheet.specs.Rooms.{rowsOf, total, sizeOfRow}
 use Rattle.sheet.specs.Sections.{stateOfClock}
-use Rattle.line.specs.Text.{digits, decimal, field, lineFeed}
+use Rattle.line.specs.Text.{digits, decimal, field, lineFeed, outcomeLine}
 use Rattle.report.specs.declared.Listed.{Listed}
 
 -- clock
@@ -33,10 +33,6 @@ roomWord = 114 ∷ 111 ∷ 111 ∷ 109 ∷ []
 -- refused
 abbrev pub refusedWord : List ℕ
 refusedWord = 114 ∷ 101 ∷ 102 ∷ 117 ∷ 115 ∷ 101 ∷ 100 ∷ []
-
--- at
-abbrev pub atWord : List ℕ
-atWord = 97 ∷ 116 ∷ []
 
 -- closed, where the state is 1, else open
 abbrev pub stateWord : ℕ → List ℕ
@@ -75,7 +71,7 @@ roomLine opened whole = roomWord ++ (field (digits opened) ++ (field (digits who
 
 -- "A refusal prints only `refused NUMBER at PLACE`."
 unfoldable pub refusedLine : ℕ → ℕ → List ℕ
-refusedLine number place = refusedWord ++ (field (digits number) ++ (field atWord ++ (field (digits place) ++ ended)))
+refusedLine number place = outcomeLine refusedWord number place
 
 -- a line for each clock, from its state and its node; the first has index i
 unfoldable pub clockLines : ℕ → List ℕ → List Node → List ℕ

@@ -18,6 +18,7 @@ use line::put_byte;
 use line::put_bytes;
 use line::put_decimal_field;
 use line::put_digits_field;
+use line::put_outcome;
 use line::put_word_field;
 use link::Row;
 use link::Verdict;
@@ -154,11 +155,7 @@ fn put_refused(out: &mut [u8], at: usize, number: u8, place: usize) -> usize
     requires { ⌜ at + length (refusedLine number place) ≤ length (now out) ⌝ }
     ensures { λ r. ⌜ Put (now (out .entry)) at (refusedLine number place) (now (out .exit)) r ⌝ }
 {
-    let a = put_bytes(out, at, b"refused");
-    let b = put_digits_field(out, a, number as u64);
-    let c = put_word_field(out, b, b"at");
-    let d = put_digits_field(out, c, place as u64);
-    put_byte(out, d, line::LINE_FEED)
+    put_outcome(out, at, b"refused", number as u64, place as u64)
 }
 
 // How many bytes the lines of all clocks take.

@@ -5,11 +5,12 @@ use Prim.Native.Nat.{ℕ, _+_, _-_, _*_, _^_, _≤_, _<_}
 use native.Mathlib.Numerals.{add-one}
 use native.Mathlib.Omega.{arith}
 use borrow.Author.Tests.{eq-eqb, ne-eqb}
-use lib.ListN.{length, getD, drop, length-append, length-drop}
+use lib.ListN.{length, getD, drop, length-drop}
 use lib.Seq.{drop-cons, drop-length}
-use Rattle.line.specs.Text.{lineFeed, digits}
+use Rattle.line.specs.Text.{lineFeed, outcomeLine}
+use Rattle.line.proofs.Outcomes.{outcome-length}
 use Rattle.line.proofs.Digits.{length-most}
-use Rattle.terminal.specs.Lines.{bitFigure, bitLine, between, afterByte, hexByte, hexLine, outcomeLine}
+use Rattle.terminal.specs.Lines.{bitFigure, bitLine, between, afterByte, hexByte, hexLine}
 
 -- ---- bits
 pub bits-from : (bits : List ℕ) (i : ℕ) → i < length bits → bitLine (drop i bits) ≡ (bitFigure (getD bits i 0) ∷ []) ++ bitLine (drop (i + 1) bits)
@@ -44,9 +45,5 @@ hex-length [] = refl
 hex-length (b ∷ t) = omega (arith, hex-length t)
 
 -- ---- a word, a number and a place
-pub outcome-length : (word : List ℕ) (number place : ℕ) → length (outcomeLine word number place) ≡ length word + length (digits number) + length (digits place) + 6
-unfolding outcomeLine
-outcome-length word number place = simp length-append (omega arith)
-
 pub outcome-fits : (word : List ℕ) (number place : ℕ) → length word ≤ 7 → number < 2 ^ 64 → place < 2 ^ 64 → length (outcomeLine word number place) ≤ 64
 outcome-fits word number place h m n = omega (arith, outcome-length word number place, length-most 19 number (omega arith), length-most 19 place (omega arith))

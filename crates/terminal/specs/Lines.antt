@@ -4,7 +4,7 @@ use mathlib.Core.List.{List, [], _∷_, _++_}
 use Prim.Native.Nat.{ℕ, _+_, _/_, _%_}
 use lib.Dec.{eqb}
 use Rattle.io.specs.Digits.{glyph}
-use Rattle.line.specs.Text.{figure, blank, lineFeed, digits, field}
+use Rattle.line.specs.Text.{figure, blank, lineFeed}
 
 abbrev pub bitFigure : ℕ → ℕ
 bitFigure bit = cond (eqb bit 0) (figure 0) (figure 1)
@@ -30,8 +30,3 @@ between (b ∷ t) = blank
 unfoldable pub hexLine : List ℕ → List ℕ
 hexLine [] = []
 hexLine (b ∷ t) = hexByte b (between t) ++ hexLine t
-
--- a word, a number, "at" and a place: "refused NUMBER at PLACE", "closed CLOCK at PLACE"
-unfoldable pub outcomeLine : List ℕ → ℕ → ℕ → List ℕ
-outcomeLine word number place =
-    word ++ (field (digits number) ++ (field (97 ∷ 116 ∷ []) ++ (field (digits place) ++ (lineFeed ∷ []))))

@@ -4,12 +4,10 @@ ghost use Prim.Native.Nat.{_+_, _≤_, _<_};
 ghost use lib.ListN.{length};
 ghost use Rattle.io.specs.Digits.{glyph as Digits·glyph};
 ghost use Rattle.line.specs.Text.{Put};
-ghost use Rattle.terminal.specs.Lines.{bitFigure, bitLine, afterByte, hexByte, hexLine, outcomeLine};
+ghost use Rattle.terminal.specs.Lines.{bitFigure, bitLine, afterByte, hexByte, hexLine};
 use crate::complaint::print;
 use line::put_byte;
-use line::put_bytes;
-use line::put_digits_field;
-use line::put_word_field;
+use line::put_outcome;
 
 const ZERO: u8 = 48;
 
@@ -78,19 +76,7 @@ pub fn put_hex(out: &mut [u8], at: usize, bytes: &[u8]) -> usize
     next
 }
 
-// A word, a number, "at" and a place.
-fn put_outcome(out: &mut [u8], start: usize, word: &[u8], number: u64, place: u64) -> usize
-    requires { ⌜ start + length (outcomeLine (now word) number place) ≤ length (now out) ⌝ }
-    ensures { λ r. ⌜ Put (now (out .entry)) start (outcomeLine (now (word .entry)) number place) (now (out .exit)) r ⌝ }
-{
-    let a = put_bytes(out, start, word);
-    let b = put_digits_field(out, a, number);
-    let c = put_word_field(out, b, b"at");
-    let d = put_digits_field(out, c, place);
-    put_byte(out, d, line::LINE_FEED)
-}
-
-// Prints that line, or complains.
+// Prints a word, a number, "at" and a place, or complains.
 fn print_outcome(program: &[u8], word: &[u8], number: u64, place: u64) -> bool
     requires { ⌜ length (now word) ≤ 7 ⌝ }
 {

@@ -9,7 +9,7 @@ use Rattle.terminal.proofs.text.print_outcome.Statement.{statement}
 use Rattle.terminal.proofs.text.print_outcome.Tie as tie
 use Rattle.terminal.proofs.text.print_outcome.Reads as reads
 use Rattle.terminal.proofs.text.print_outcome.Lts as lts
-use Rattle.terminal.proofs.text.put_outcome.Reads as put-outcome-reads
+use Rattle.line.proofs.put_outcome.Reads as put-outcome-reads
 
 -- src/text.rt:93:25
 slice-aggregate-put-outcome : tie.Need-slice-aggregate-put-outcome
