@@ -47,7 +47,7 @@ fn one_at(e: Envelope, d: i64) -> bool
 
 // Whether a 0 may follow there.
 fn zero_at(e: Envelope, d: i64) -> bool
-    requires { ⌜ Taken e × Near longest d ⌝ }
+    requires { ⌜ Taken e ⌝ }
     ensures { λ r. ⌜ r ≡ zeroAt e d ⌝ }
 {
     d <= e.K - (e.n as i64)
@@ -55,7 +55,7 @@ fn zero_at(e: Envelope, d: i64) -> bool
 
 // Whether the bit b may follow there.
 fn may_follow(e: Envelope, d: i64, b: u8) -> bool
-    requires { ⌜ Taken e × Near longest d ⌝ }
+    requires { ⌜ Taken e ⌝ }
     ensures { λ r. ⌜ r ≡ mayAt e d b ⌝ }
 {
     if b == 0 { zero_at(e, d) } else { one_at(e, d) }
@@ -87,7 +87,7 @@ fn moved_back(e: Envelope, d: i64, b: u8) -> i64
 
 // The smaller bit that may follow.
 fn least_at(e: Envelope, d: i64) -> u8
-    requires { ⌜ Taken e × Near longest d ⌝ }
+    requires { ⌜ Taken e ⌝ }
     ensures { λ r. ⌜ r ≡ leastAt e d ⌝ }
 {
     if zero_at(e, d) { 0 } else { 1 }
@@ -133,7 +133,7 @@ fn floor(e: Envelope) -> i64
     e.k + step(e, 1)
 }
 
-// How far x is above it.
+// How far x is above `low`.
 fn above(x: i64, low: i64) -> u64
     requires { ⌜ Near longest x × Near longest low × (low ≤ℤ x) ⌝ }
     ensures { λ r. ⌜ pos r +ℤ low ≡ x ⌝ }
@@ -141,8 +141,7 @@ fn above(x: i64, low: i64) -> u64
     (x - low) as u64
 }
 
-// From place `from` on, where n*i - l*j is `start` above the floor: how far above it the pattern ends, or, where it is outside, more than
-// the room. One sum and one test a bit, since what is below the floor wraps and is large.
+// How far above the floor a pattern ends; more than the room where it is outside. Below the floor a number wraps and is large: one test a bit.
 fn sweep(e: Envelope, room: u64, pattern: &[u8], from: usize, start: u64) -> u64
     requires { ⌜ Taken e × (length (now pattern) ≤ plain (now pattern)) × (from ≤ length (now pattern)) ⌝ }
     requires { ⌜ (pos room +ℤ floorOf e ≡ e .K) × (start ≤ room) ⌝ }

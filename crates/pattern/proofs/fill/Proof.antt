@@ -32,9 +32,7 @@ loop-holds c =
     (s .pre .2, refl, subst (Near (s .args .from)) (sym (toZ-ofZ (s .fits .start))) (s .pre .3), refl)
 
 least-at-requires : tie.Need-least-at-requires Inv-loop μ-loop
-least-at-requires c κs =
-    let l = c .before in
-    (l .before .before .pre .0, near-more (l .loop .i) longest (toZ w64 (l .loop .d)) (omega arith) (l .loop .inv .2))
+least-at-requires c κs = c .before .before .before .pre .0
 
 slice-write-pattern : tie.Need-slice-write-pattern Inv-loop μ-loop
 slice-write-pattern c = omega arith

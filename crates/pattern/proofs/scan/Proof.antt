@@ -29,9 +29,7 @@ shared-slice-read-b : tie.Need-shared-slice-read-b Inv-loop μ-loop
 shared-slice-read-b c = omega arith
 
 may-follow-requires : tie.Need-may-follow-requires Inv-loop μ-loop
-may-follow-requires c κs =
-    let l = c .before .before in
-    (l .before .before .pre .0, near-more (l .loop .i) longest (toZ w64 (l .loop .d)) (omega arith) (l .loop .inv .1))
+may-follow-requires c κs = c .before .before .before .before .pre .0
 
 returns : tie.Need-returns Inv-loop μ-loop
 returns c =

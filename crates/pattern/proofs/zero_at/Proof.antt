@@ -17,12 +17,12 @@ cast-result c = search needs
 sub-result : tie.Need-sub-result
 sub-result c =
     let s = c .before .before .before in
-    fits-by _-ℤ_ (K-held (s .args .e) (s .pre .0 .limits)) (n-held (s .args .e) (s .pre .0)) (room-fits (s .args .e) (s .pre .0))
+    fits-by _-ℤ_ (K-held (s .args .e) (s .pre .limits)) (n-held (s .args .e) (s .pre)) (room-fits (s .args .e) (s .pre))
 
 returns : tie.Need-returns
 returns c =
     let s = c .before .before .before in
-    ap₂ leZ (toZ-ofZ (s .fits .d)) (back-by _-ℤ_ (K-held (s .args .e) (s .pre .0 .limits)) (n-held (s .args .e) (s .pre .0)) (room-fits (s .args .e) (s .pre .0)))
+    ap₂ leZ (toZ-ofZ (s .fits .d)) (back-by _-ℤ_ (K-held (s .args .e) (s .pre .limits)) (n-held (s .args .e) (s .pre)) (room-fits (s .args .e) (s .pre)))
     ∙ zero-by-room (s .args .e) (s .args .d)
 
 pub zero-at-spec : {M : Type 1} → statement M
