@@ -7,6 +7,10 @@ use Prim.Native.Nat.{ℕ, zero, suc, _+_, _*_, _/_, _<_}
 use native.Mathlib.Omega.{arith}
 use lib.IntN.{ℤ, pos, natAbs}
 use lib.ListN.{length, getD, getElem?}
+use mir.Syntax.{w32, w64}
+use mir.Val.{SFits, toZ, ofZ}
+use mir.Facts.{toZ-ofZ}
+use Rattle.whole.proofs.Bridge.{sfits-reads, sfits-shows}
 use Rattle.envelope.specs.declared.Node.{Node}
 use Rattle.expression.specs.Table.{nodeFrom, nodesIn, flat, flats, nodeAt, AllTaken, Holds}
 
@@ -93,3 +97,11 @@ pub holds-unsigned : (t : List ℤ) (i : ℕ) → Holds t → 4 * i + 3 < length
 holds-unsigned t i h l =
     subst (λ (x : List ℤ). Unsigned x (4 * i + 2) × Unsigned x (4 * i + 3)) (h .flat-is)
     (unsigned-at (nodesIn t) i (omega (arith, nodes-many t)))
+
+-- ---- a number of 32 bits, in 64
+module _ (x : ℤ) (f : SFits w32 x) where
+  pub wide : SFits w64 (toZ w32 (ofZ w32 x))
+  wide = rw (toZ-ofZ f) (sfits-shows (omega (arith, sfits-reads f)))
+
+  pub wide-held : toZ w64 (ofZ w64 (toZ w32 (ofZ w32 x))) ≡ x
+  wide-held = toZ-ofZ wide ∙ toZ-ofZ f

@@ -35,15 +35,15 @@ fn place(made: Made, c: Cursor, tag: usize) -> Value
 }
 
 // The node at index i of a table.
-pub fn entry(table: &[i64], i: usize) -> Node
+pub fn entry(table: &[i32], i: usize) -> Node
     requires { ⌜ (4 * i + 3 < length (now table)) × Holds (now table) ⌝ }
     ensures { λ r. ⌜ r ≡ nodeAt (now (table .entry)) i ⌝ }
 {
     let at = 4 * i;
     Node {
         envelope: Envelope {
-            k: table[at],
-            K: table[at + 1],
+            k: table[at] as i64,
+            K: table[at + 1] as i64,
             l: table[at + 2] as u64,
             n: table[at + 3] as u64,
         },
@@ -51,16 +51,16 @@ pub fn entry(table: &[i64], i: usize) -> Node
 }
 
 // The node, stored at index i of a table.
-pub fn store(x: Node, table: &mut [i64], i: usize)
+pub fn store(x: Node, table: &mut [i32], i: usize)
     requires { ⌜ (4 * i + 3 < length (now table)) × Taken (x .envelope) ⌝ }
     ensures { λ _. ⌜ now (table .exit) ≡ sets (now (table .entry)) (4 * i) (flat x) ⌝ }
 {
     let e = x.envelope;
     let at = 4 * i;
-    let k = e.k;
-    let top = e.K;
-    let l = e.l as i64;
-    let n = e.n as i64;
+    let k = e.k as i32;
+    let top = e.K as i32;
+    let l = e.l as i32;
+    let n = e.n as i32;
     table[at] = k;
     table[at + 1] = top;
     table[at + 2] = l;
@@ -68,7 +68,7 @@ pub fn store(x: Node, table: &mut [i64], i: usize)
 }
 
 // A word or an earlier clock, by its index in a table.
-fn listed(c: Cursor, s: &[u8], table: &[i64]) -> Value
+fn listed(c: Cursor, s: &[u8], table: &[i32]) -> Value
     requires { ⌜ Holds (now table) ⌝ }
     ensures { λ r. ⌜ valueOf r ≡ listedAt (now (s .entry)) (now (table .entry)) (c .at) ⌝ }
 {
@@ -108,7 +108,7 @@ fn declared(c: Cursor, s: &[u8], tag: usize) -> Value
 }
 
 // An expression, of which `depth` levels are left.
-pub fn evaluate(start: Cursor, s: &[u8], words: &[i64], clocks: &[i64], depth: usize) -> Value
+pub fn evaluate(start: Cursor, s: &[u8], words: &[i32], clocks: &[i32], depth: usize) -> Value
     requires { ⌜ Holds (now words) × Holds (now clocks) ⌝ }
     ensures { λ r. ⌜ valueOf r ≡ mapped nodeIn (exprAt depth (now (s .entry)) (nodesIn (now (words .entry))) (nodesIn (now (clocks .entry))) (start .at)) ⌝ }
 {

@@ -68,7 +68,7 @@ fn locate(s: &[u8], first: usize, i: usize) -> usize
 fn find(s: &[u8], i: usize) -> Field
     ensures { λ r. ⌜ fieldOf r ≡ mapped placeOf (locatedIn (now (s .entry)) i) ⌝ }
 {
-    let mut table = [0i64; 512];
+    let mut table = [0i32; 512];
     let mut states = [0u8; 128];
     match sheet::read(s, &mut table, &mut states) {
         Reading::Refused(number, place) => Field::Refused(number, place),

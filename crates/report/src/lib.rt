@@ -159,7 +159,7 @@ fn put_refused(out: &mut [u8], at: usize, number: u8, place: usize) -> usize
 }
 
 // How many bytes the lines of all clocks take.
-fn clocks_len(table: &[i64], states: &[u8]) -> usize
+fn clocks_len(table: &[i32], states: &[u8]) -> usize
     requires { ⌜ Many (now table) (now states) ⌝ }
     ensures { λ r. ⌜ (r ≡ length (clockLines 0 (now (states .entry)) (nodesIn (now (table .entry))))) × (r ≤ 128 * 128) ⌝ }
 {
@@ -173,7 +173,7 @@ fn clocks_len(table: &[i64], states: &[u8]) -> usize
     total
 }
 
-fn put_clocks(out: &mut [u8], start: usize, table: &[i64], states: &[u8]) -> usize
+fn put_clocks(out: &mut [u8], start: usize, table: &[i32], states: &[u8]) -> usize
     requires { ⌜ Many (now table) (now states) × (start + length (clockLines 0 (now states) (nodesIn (now table))) ≤ length (now out)) ⌝ }
     ensures { λ r. ⌜ Put (now (out .entry)) start (clockLines 0 (now (states .entry)) (nodesIn (now (table .entry)))) (now (out .exit)) r ⌝ }
 {
@@ -194,7 +194,7 @@ struct Linked {
 }
 
 // The row of the link at a cursor. Where none stands there, any row will do: links are listed only once all have been read.
-fn link_row(c: Cursor, s: &[u8], table: &[i64], states: &[u8]) -> Linked
+fn link_row(c: Cursor, s: &[u8], table: &[i32], states: &[u8]) -> Linked
     requires { ⌜ Many (now table) (now states) ⌝ }
     ensures { λ r. ⌜ Next (nodesIn (now (table .entry))) (now (states .entry)) (linkAt (now (s .entry)) (length (now (states .entry))) [] (c .at)) r ⌝ }
 {
@@ -222,7 +222,7 @@ struct Measured {
     whole: u64,
 }
 
-fn measure_links(start: Cursor, s: &[u8], table: &[i64], states: &[u8], n: usize) -> Measured
+fn measure_links(start: Cursor, s: &[u8], table: &[i32], states: &[u8], n: usize) -> Measured
     requires { ⌜ Ready (now s) (now table) (now states) n (3 * n) (start .at) ⌝ }
     ensures { λ r. ⌜ (r ≡ measuredOf (rowsThere (now (s .entry)) (now (table .entry)) (now (states .entry)) n (start .at))) × (r .bytes ≤ 128 * 256) ⌝ }
 {
@@ -253,7 +253,7 @@ fn put_links(
     place: usize,
     start: Cursor,
     s: &[u8],
-    table: &[i64],
+    table: &[i32],
     states: &[u8],
     n: usize,
 ) -> usize
@@ -294,7 +294,7 @@ fn list_refused(number: u8, place: usize, text: &mut [u8]) -> Listed
 fn list_whole(
     start: Cursor,
     s: &[u8],
-    table: &[i64],
+    table: &[i32],
     states: &[u8],
     n: usize,
     text: &mut [u8],
@@ -321,7 +321,7 @@ pub fn list(sheet: &[u8], text: &mut [u8]) -> Listed
     ensures listed { λ r. ⌜ r ≡ listedOf (now (sheet .entry)) (length (now (text .entry))) ⌝ }
     ensures text { λ _. ⌜ now (text .exit) ≡ textAfter (now (sheet .entry)) (now (text .entry)) ⌝ }
 {
-    let mut table = [0i64; 512];
+    let mut table = [0i32; 512];
     let mut states = [0u8; 128];
     match sheet::read(sheet, &mut table, &mut states) {
         Reading::Refused(number, place) => list_refused(number, place, text),

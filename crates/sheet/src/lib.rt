@@ -95,7 +95,7 @@ fn word(start: Cursor, s: &[u8]) -> Value
 }
 
 // The words section: how many words there are, and the cursor past them; their nodes are left in `table`.
-fn read_words(start: Cursor, s: &[u8], table: &mut [i64]) -> Field
+fn read_words(start: Cursor, s: &[u8], table: &mut [i32]) -> Field
     requires { ⌜ length (now table) ≡ 256 ⌝ }
     ensures { λ r. ⌜ WordRows (now (s .entry)) (start .at) r (now (table .exit)) ⌝ }
 {
@@ -127,7 +127,7 @@ pub enum Marked {
 }
 
 // A clock, after those whose nodes are in `clocks`.
-pub fn clock(start: Cursor, s: &[u8], words: &[i64], clocks: &[i64]) -> Marked
+pub fn clock(start: Cursor, s: &[u8], words: &[i32], clocks: &[i32]) -> Marked
     requires { ⌜ Holds (now words) × Holds (now clocks) ⌝ }
     ensures { λ r. ⌜ markedOf r ≡ markedAt (now (s .entry)) (nodesIn (now (words .entry))) (nodesIn (now (clocks .entry))) (start .at) ⌝ }
 {
@@ -144,9 +144,9 @@ pub fn clock(start: Cursor, s: &[u8], words: &[i64], clocks: &[i64]) -> Marked
 pub fn clock_rows(
     start: Cursor,
     s: &[u8],
-    words: &[i64],
+    words: &[i32],
     n: usize,
-    table: &mut [i64],
+    table: &mut [i32],
     states: &mut [u8],
 ) -> Field
     requires { ⌜ (length (now table) ≡ 512) × (length (now states) ≡ 128) × Holds (now words) × (n ≤ clocksMost) ⌝ }
@@ -238,7 +238,7 @@ fn refused(f: Field) -> Reading
 }
 
 // Reads a whole sheet: its clocks' nodes are left in `table`, their states in `states`.
-pub fn read(s: &[u8], table: &mut [i64], states: &mut [u8]) -> Reading
+pub fn read(s: &[u8], table: &mut [i32], states: &mut [u8]) -> Reading
     requires { ⌜ (length (now table) ≡ 512) × (length (now states) ≡ 128) ⌝ }
     ensures found { λ r. ⌜ r ≡ readingOf (readSheet (now (s .entry))) ⌝ }
     ensures tables { λ _. ⌜ Tabled (readSheet (now (s .entry))) (now (table .exit)) (now (states .exit)) ⌝ }
@@ -246,7 +246,7 @@ pub fn read(s: &[u8], table: &mut [i64], states: &mut [u8]) -> Reading
     if BYTES_MOST < s.len() {
         return Reading::Refused(reply::BEYOND, BYTES_MOST);
     }
-    let mut list = [0i64; 256];
+    let mut list = [0i32; 256];
     let words = read_words(Cursor { at: 0 }, s, &mut list);
     let Field::Got(w, a) = words else {
         return refused(words);
@@ -277,7 +277,7 @@ pub fn read(s: &[u8], table: &mut [i64], states: &mut [u8]) -> Reading
 }
 
 // The row of a link from clock i to clock j.
-pub fn row(i: usize, j: usize, clocks: &[i64], states: &[u8]) -> Row
+pub fn row(i: usize, j: usize, clocks: &[i32], states: &[u8]) -> Row
     requires { ⌜ (4 * i + 3 < length (now clocks)) × (4 * j + 3 < length (now clocks)) × (i < length (now states)) × (j < length (now states)) × Holds (now clocks) ⌝ }
     ensures { λ r. ⌜ r ≡ rowAt (nodesIn (now (clocks .entry))) (now (states .entry)) i j ⌝ }
 {
@@ -314,7 +314,7 @@ pub struct Rooms {
 }
 
 // n links, which have been read before: their rows are left in `list`.
-fn fill(start: Cursor, s: &[u8], clocks: &[i64], states: &[u8], n: usize, list: &mut [i64]) -> Rooms
+fn fill(start: Cursor, s: &[u8], clocks: &[i32], states: &[u8], n: usize, list: &mut [i64]) -> Rooms
     requires { ⌜ Ready (now s) (now clocks) (now states) n (length (now list)) (start .at) ⌝ }
     ensures rooms { λ r. ⌜ r ≡ roomsOf (nodesIn (now (clocks .entry))) (now (states .entry)) (linksFrom (now (s .entry)) (length (now (states .entry))) n (start .at)) ⌝ }
     ensures rows { λ _. ⌜ now (list .exit) ≡ rowsFrom (nodesIn (now (clocks .entry))) (now (states .entry)) (linksFrom (now (s .entry)) (length (now (states .entry))) n (start .at)) ++ drop (3 * n) (now (list .entry)) ⌝ }
@@ -367,13 +367,13 @@ fn refuse(number: u8, place: usize) -> Reply
 }
 
 // The first numbers of `to` become those of `from`.
-fn copy(from: &[i64], to: &mut [i64])
+fn copy(from: &[i32], to: &mut [i64])
     requires { ⌜ length (now from) ≤ length (now to) ⌝ }
     ensures { λ _. ⌜ now (to .exit) ≡ now (from .entry) ++ drop (length (now (from .entry))) (now (to .entry)) ⌝ }
 {
     let mut i: usize = 0;
     while i < from.len() {
-        to[i] = from[i];
+        to[i] = from[i] as i64;
         i += 1;
     }
 }
@@ -384,7 +384,7 @@ pub fn work_out(sheet: &[u8], clocks: &mut [i64], links: &mut [i64]) -> Reply
     ensures clocks { λ _. ⌜ now (clocks .exit) ≡ clocksOut (workedOf (now (sheet .entry)) (length (now (clocks .entry))) (length (now (links .entry)))) (now (clocks .entry)) ⌝ }
     ensures links { λ _. ⌜ now (links .exit) ≡ linksOut (workedOf (now (sheet .entry)) (length (now (clocks .entry))) (length (now (links .entry)))) (now (links .entry)) ⌝ }
 {
-    let mut table = [0i64; 512];
+    let mut table = [0i32; 512];
     let mut states = [0u8; 128];
     match read(sheet, &mut table, &mut states) {
         Reading::Refused(number, place) => refuse(number, place),

@@ -7,10 +7,11 @@ use native.Mathlib.Omega.{arith}
 use borrow.Author.Needs.{needs}
 use denote.Ref.{now}
 use lib.IntN.{pos}
-use lib.ListN.{length, length-set}
+use lib.ListN.{length, getD, length-set}
 use lib.Seq.{paste, paste-zero, take-length}
-use mir.Syntax.{w64}
-use mir.ValLaws.{toZ-ofZ}
+use mir.Syntax.{w32}
+use mir.Val.{SFits}
+use Rattle.expression.proofs.Tables.{wide, wide-held}
 use Rattle.sheet.proofs.Copies.{copy-more}
 use Rattle.sheet.proofs.copy.Statement.{statement}
 use Rattle.sheet.proofs.copy.Tie as tie
@@ -21,6 +22,10 @@ Inv-loop from to₀ i₀ to i = (i ≤ length from) × (length to ≡ length to�
 abbrev μ-loop : tie.MeasureT-loop
 μ-loop from to₀ i₀ to i = length from - i
 
+-- the number that is copied
+from-fits : (c : tie.After-to Inv-loop μ-loop) → SFits w32 (getD (now (c .before .before .before .args .from)) (c .before .before .loop .i) (pos 0))
+from-fits c = record { sfits = c .to .given }
+
 loop-holds : tie.Need-loop-holds Inv-loop μ-loop
 loop-holds c = (omega arith, refl, paste-zero _ 0 (c .args .from .now))
 
@@ -30,8 +35,11 @@ mul-to c = search needs
 shared-slice-copy-out-to : tie.Need-shared-slice-copy-out-to Inv-loop μ-loop
 shared-slice-copy-out-to c = omega arith
 
-mul-t8 : tie.Need-mul-t8 Inv-loop μ-loop
-mul-t8 c = search needs
+mul-t9 : tie.Need-mul-t9 Inv-loop μ-loop
+mul-t9 c = search needs
+
+cast-to : tie.Need-cast-to Inv-loop μ-loop
+cast-to c = wide _ (from-fits c)
 
 slice-set-from-to : tie.Need-slice-set-from-to Inv-loop μ-loop
 slice-set-from-to c = omega arith
@@ -46,7 +54,7 @@ loop-again : tie.Need-loop-again Inv-loop μ-loop
 loop-again c = (
   omega arith,
   simp length-set (c .before .before .loop .inv .1),
-  copy-more (c .before .before .before .args .from .now) _ _ _ _ (pos 0) (c .before .before .loop .inv .2) (toZ-ofZ w64 _ (record { sfits = c .to .given })) (omega arith) (omega arith),
+  copy-more (c .before .before .before .args .from .now) _ _ _ _ (pos 0) (c .before .before .loop .inv .2) (wide-held _ (from-fits c)) (omega arith) (omega arith),
 )
 
 same-length : tie.Need-same-length Inv-loop μ-loop
@@ -66,7 +74,8 @@ copy-spec =
     loop-holds
     mul-to
     shared-slice-copy-out-to
-    mul-t8
+    cast-to
+    mul-t9
     slice-set-from-to
     add-i
     loop-less
