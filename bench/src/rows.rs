@@ -67,6 +67,11 @@ fn list(name: &str, bytes: Vec<u8>) -> Row {
 /// The clock is opened again after each call.
 fn close(name: &str, mut bytes: Vec<u8>, clock: usize) -> Row {
     let mut copy = bytes.clone();
+    let (mut a, mut b) = (bytes.clone(), bytes.clone());
+    let place = sheet::close(&mut b, clock as u64).expect("an open clock");
+    let reply = ours::close(&mut a, clock);
+    assert_eq!([reply.number, reply.place], [0, place as u64]);
+    assert_eq!(a, b);
     row(
         format!("close, {name}"),
         bytes.len(),
@@ -87,6 +92,10 @@ fn quote(name: &str, bytes: Vec<u8>, clock: usize) -> Row {
     let mut out = vec![0; bytes.len()];
     let mut out2 = out.clone();
     let copy = bytes.clone();
+    let part = sheet::quote(&bytes, clock as u64).expect("a clock");
+    let reply = ours::quote(&bytes, clock, &mut out);
+    assert_eq!([reply.number, reply.length], [0, part.len() as u64]);
+    assert_eq!(&out[..part.len()], part);
     row(
         format!("quote, {name}"),
         bytes.len(),
@@ -126,6 +135,9 @@ fn next_turned(length: usize) -> Row {
     let start = turned_at_once(length);
     let copy = start.clone();
     let (mut pattern, mut pattern2) = (start.clone(), start.clone());
+    assert_eq!(ours::next(&WALK, &mut pattern).number, 0);
+    assert_eq!(pattern::next(&WALK, &mut pattern2), Ok(true));
+    assert_eq!(pattern, pattern2);
     row(
         format!("next, {length}, turned at its start"),
         length,
