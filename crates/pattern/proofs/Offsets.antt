@@ -149,12 +149,6 @@ room-fits e t =
     sfits-small
     (omega (arith, up-diff-le (e .K) (pos (e .n)), down-diff-le (e .K) (pos (e .n)), n-small e t, K-up e (t .limits), K-down e (t .limits)))
 
-pub floor-fits : (e : Envelope) → Taken e → SFits w64 (floorOf e)
-floor-fits e t =
-    let s = step-near e t 1 in
-    sfits-small
-    (omega (arith, up-sum-le (e .k) (stepOf e 1), down-sum-le (e .k) (stepOf e 1), k-up e (t .limits), k-down e (t .limits)))
-
 -- K and the floor are as near as an offset
 pub K-near : (e : Envelope) → Taken e → Near longest (e .K)
 K-near e t = near-shows longest (e .K) (omega (arith, K-up e (t .limits))) (omega (arith, K-down e (t .limits)))
@@ -165,6 +159,9 @@ floor-near e t =
     near-shows longest (floorOf e)
     (omega (arith, up-sum-le (e .k) (stepOf e 1), k-up e (t .limits)))
     (omega (arith, down-sum-le (e .k) (stepOf e 1), k-down e (t .limits)))
+
+pub floor-fits : (e : Envelope) → Taken e → SFits w64 (floorOf e)
+floor-fits e t = let r = near-reads longest (floorOf e) (floor-near e t) in sfits-small (omega arith)
 
 pub floor-below : (e : Envelope) → Taken e → floorOf e ≤ℤ e .K
 floor-below e t =
