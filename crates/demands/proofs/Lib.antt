@@ -1,1 +1,2 @@
+pub mod Slices
 pub mod Demands

@@ -1,45 +1,61 @@
 -- The three demands, in the request's order and words. A reader who believes the definitions below can match each field to a phrase.
 --
--- What must be believed, and where it stands:
---   the bytes of a sheet: field/specs/{Spelling, Field}, expression/specs/Expression, sheet/specs/{Sheet, Reader}
+-- What must be believed, and where it stands (`tools/believed` counts its lines):
+--   the bytes of a sheet, and what refuses them: field/specs/{Read, Spelling, Field, Format}, expression/specs/{Expression, Format}, sheet/specs/{Sheet, Opened, Format}
 --   envelopes and their rules: whole/specs/{Rounding, Euclid, Order}, envelope/specs/{Limits, Envelope, Word, Standing, Made}, expression/specs/Evaluate
 --   streams and what a clock can stand for: envelope/specs/Stream, expression/specs/Stands
---   links and rooms: link/specs/Link, sheet/specs/{Rooms, WorkOut}
---   closing and quoting: register/specs/{Locating, Closing, Quoting}
---   patterns: pattern/specs/{Step, Pattern, Beginning, Answer}; the listing: line/specs/Text, report/specs/Listing
+--   links, rooms and the result slices: link/specs/{Link, Promise}, sheet/specs/{Rooms, WorkOut, Promise}, expression/specs/Table
+--   closing and quoting: register/specs/{Locating, Closing, OpenLinks, Table, Promise}
+--   patterns: pattern/specs/{Step, Pattern, Beginning, Table, Walk}; the listing: line/specs/Text, report/specs/{Listing, Table}
+--   the numbers of the replies: reply/specs/Numbers; "fixed": Entry
+-- The contracts of the entry points and the reader of a sheet that they go by (sheet/specs/Reader) need not be: the fields say what each gives, both ways.
+-- What only inner functions and proofs use stands in specs/Inner.
 -- That every function ends and never does anything undefined is part of every contract's proof and needs no statement.
 use mathlib.Core.Path.{_≡_}
-use mathlib.Core.Logic.{_≢_}
+use mathlib.Core.Logic.{_≢_, _↔_}
 use mathlib.Core.List.{List, _++_}
 use mathlib.Core.Option.{some}
-use Prim.Native.Nat.{ℕ, _*_, _≤_}
-use lib.IntN.{ℤ}
-use lib.ListN.{length, drop, getElem?}
-use Rattle.field.specs.Read.{Read.got}
+use Prim.Native.Nat.{ℕ, _+_, _*_, _≤_, _<_}
+use lib.IntN.{ℤ, pos}
+use lib.ListN.{length, drop, getD, getElem?}
+use Rattle.field.specs.Read.{Read.got, Read.refused}
 use Rattle.field.specs.Spelling.{AllBytes}
 use Rattle.envelope.specs.declared.Envelope.{Envelope}
 use Rattle.envelope.specs.declared.Node.{Node}
 use Rattle.envelope.specs.Envelope.{Taken}
-use Rattle.link.specs.Link.{verdictOf}
+use Rattle.envelope.specs.Stream.{Stream, Lies}
+use Rattle.link.specs.declared.Verdict.the-variants.{Accepted}
+use Rattle.link.specs.Link.{sizeOf, verdictOf}
+use Rattle.link.specs.Promise.{Serves}
 use Rattle.pattern.specs.declared.Answer.{Answer}
-use Rattle.pattern.specs.declared.Answer.the-variants.{Refused}
+use Rattle.pattern.specs.declared.Answer.the-variants.{Inside, Refused}
 use Rattle.pattern.specs.Pattern.{longest}
+use Rattle.pattern.specs.Beginning.{Begins}
+use Rattle.pattern.specs.Answer.{Checks, Firsts, Nexts}
+use Rattle.pattern.specs.Table.{Unfit, Refuses}
 use Rattle.pattern.specs.Walk.{Walks}
+use Rattle.expression.specs.Expression.{Expr}
+use Rattle.expression.specs.Stands.{Stands}
 use Rattle.expression.specs.Evaluate.{Worked}
 use Rattle.expression.specs.Table.{flats}
 use Rattle.sheet.specs.declared.Reply.{Reply}
 use Rattle.sheet.specs.Sheet.{Link, Sheet, spellSheet, Legal}
-use Rattle.sheet.specs.Reader.{Opened, readSheet}
+use Rattle.sheet.specs.Reader.{readSheet}
+use Rattle.sheet.specs.Opened.{Opened}
+use Rattle.sheet.specs.Format.{Refused as SheetRefused, Passed, WorkRefused}
 use Rattle.sheet.specs.Rooms.{rowOf, rowsOf, openRoom, wholeRoom}
-use Rattle.sheet.specs.WorkOut.{flatRows}
-use Rattle.sheet.specs.Promise.{WorksOut, Served}
+use Rattle.sheet.specs.WorkOut.{flatRows, WorksOut}
+use Rattle.sheet.specs.Promise.{StreamOf}
 use Rattle.register.specs.declared.Closing.{Closing}
 use Rattle.register.specs.declared.QuoteReply.{QuoteReply}
-use Rattle.register.specs.Closing.{numberOf}
-use Rattle.register.specs.Promise.{Closes, ClosePromise, AnySet, Quotes, QuotePromise}
+use Rattle.register.specs.Closing.{numberOf, replyPlace, Closes}
+use Rattle.register.specs.Quoting.{Quotes, RepliesTo}
+use Rattle.register.specs.Table.{QuoteRefused, CloseRefused}
+use Rattle.register.specs.Promise.{ClosePromise, AnySet, QuotePromise}
 use Rattle.report.specs.declared.Listed.{Listed}
-use Rattle.report.specs.Promise.{ListsInto}
-use Rattle.demands.specs.Entry.{Fixed, Checks, Firsts, Nexts}
+use Rattle.report.specs.Listing.{sheetText, numberOf as listNumber, placeOf as listPlace, ListsInto}
+use Rattle.report.specs.Table.{ListRefused}
+use Rattle.demands.specs.Entry.{Fixed}
 
 -- every count and total is 0
 pub record NoTotals (r : Reply) : Type 0 where
@@ -54,48 +70,88 @@ pub record Demand1 : Type 0 where
   -- "Every sheet .. gets .. a fixed reply": s is any list of bytes, the slices are of any length
   pub work-out-fixed : (s : List ℕ) (clocks links : List ℤ) → Fixed (λ (a : Reply × List ℤ × List ℤ). WorksOut s clocks links (a .0) (a .1) (a .2))
   pub close-fixed : (s : List ℕ) (i : ℕ) → Fixed (λ (a : Closing × List ℕ). Closes s i (a .0) (a .1))
-  pub quote-fixed : (s : List ℕ) (i : ℕ) → Fixed (λ (a : ℕ × List ℕ × QuoteReply). Quotes s i (a .0) (a .1) (a .2))
+  pub quote-fixed : (s : List ℕ) (i : ℕ) (at : ℕ × ℕ) → Fixed (λ (a : List ℕ × (ℕ × ℕ)). Quotes s i at (a .0) (a .1))
+  pub quote-reply-fixed : (s : List ℕ) (i : ℕ) → Fixed (λ (a : QuoteReply). RepliesTo s i a)
   pub list-fixed : (s t : List ℕ) → Fixed (λ (a : Listed × List ℕ). ListsInto s t (a .0) (a .1))
   -- "envelope and pattern": e is any four numbers, p any bytes
   pub check-fixed : (e : Envelope) (p : List ℕ) → Fixed (λ (a : Answer). Checks e p a)
   pub first-fixed : (e : Envelope) (p : List ℕ) → Fixed (λ (a : Answer × List ℕ). Firsts e p (a .0) (a .1))
   pub next-fixed : (e : Envelope) (p : List ℕ) → Fixed (λ (a : Answer × List ℕ). Nexts e p (a .0) (a .1))
+  -- "a refusal gives its number and place": "Reply numbers", each given exactly when the table says, at its place.
+  -- 1 to 10: the table of a sheet calls no reader, and what the reader gives is just what it says
+  pub sheet-refused : (s : List ℕ) (number place : ℕ) → (readSheet s ≡ refused number place) ↔ SheetRefused s number place
+  pub sheet-passed : (s : List ℕ) (o : Opened) (c : ℕ) → (readSheet s ≡ got o c) ↔ (Passed s o × (c ≡ length s))
+  pub one-refusal : (s : List ℕ) (number number′ place place′ : ℕ) → SheetRefused s number place → SheetRefused s number′ place′ → (number ≡ number′) × (place ≡ place′)
+  pub one-to-ten : (s : List ℕ) (number place : ℕ) → SheetRefused s number place → (1 ≤ number) × (number ≤ 10)
+  -- 1 to 11; and 0 only where the sheet passes and both slices are long enough
+  pub work-out-refused : (s : List ℕ) (clocks links : List ℤ) (r : Reply) (cs ls : List ℤ) → WorksOut s clocks links r cs ls → (number place : ℕ) → number ≢ 0
+      → ((r .number ≡ number) × (r .place ≡ place)) ↔ WorkRefused s (length clocks) (length links) number place
+  pub work-out-0 : (s : List ℕ) (clocks links : List ℤ) (r : Reply) (cs ls : List ℤ) → WorksOut s clocks links r cs ls
+      → (r .number ≡ 0) ↔ ((o : Opened) × Passed s o × (4 * length (o .table) ≤ length clocks) × (3 * length (o .sheet .links) ≤ length links))
+  pub list-refused : (s t u : List ℕ) (r : Listed) → ListsInto s t r u → (number place : ℕ) → number ≢ 0
+      → ((listNumber r ≡ number) × (listPlace r ≡ place)) ↔ ListRefused s (length t) number place
+  -- 12 to 15
+  pub check-refused : (e : Envelope) (p : List ℕ) (a : Answer) → Checks e p a → (number place : ℕ) → (a ≡ Refused number place) ↔ Refuses e p number place
+  pub first-refused : (e : Envelope) (p : List ℕ) (a : Answer) (q : List ℕ) → Firsts e p a q → (number place : ℕ) → (a ≡ Refused number place) ↔ Unfit e p number place
+  pub next-refused : (e : Envelope) (p : List ℕ) (a : Answer) (q : List ℕ) → Nexts e p a q → (number place : ℕ) → (a ≡ Refused number place) ↔ Refuses e p number place
+  -- 16 and 17
+  pub close-refused : (s : List ℕ) (i : ℕ) (r : Closing) (t : List ℕ) → Closes s i r t → (number place : ℕ) → number ≢ 0
+      → ((numberOf r ≡ number) × (replyPlace r ≡ place)) ↔ CloseRefused s i number place
+  pub quote-refused : (s : List ℕ) (i : ℕ) (r : QuoteReply) → RepliesTo s i r → (number place : ℕ) → number ≢ 0
+      → ((r .number ≡ number) × (r .place ≡ place)) ↔ QuoteRefused s i number place
   -- "a refusal .. leaves lent memory untouched"
   pub work-out-untouched : (s : List ℕ) (clocks links : List ℤ) (r : Reply) (cs ls : List ℤ) → WorksOut s clocks links r cs ls → r .number ≢ 0
       → (cs ≡ clocks) × (ls ≡ links) × NoTotals r
   pub close-untouched : (s : List ℕ) (i : ℕ) (r : Closing) (t : List ℕ) → Closes s i r t → numberOf r ≢ 0 → t ≡ s
   pub first-untouched : (e : Envelope) (p : List ℕ) (number place : ℕ) (q : List ℕ) → Firsts e p (Refused number place) q → q ≡ p
   pub next-untouched : (e : Envelope) (p : List ℕ) (number place : ℕ) (q : List ℕ) → Nexts e p (Refused number place) q → q ≡ p
-  pub list-untouched : (s t u : List ℕ) → ListsInto s t Listed.Short u → u ≡ t
+  pub list-untouched : (s t u : List ℕ) (r : Listed) → ListsInto s t r u → listNumber r ≢ 0 → u ≡ t
 
 -- "2. Envelopes, verdicts and sizes are those of Cohen, Mandel, Plateau and Pouzet's clock envelopes, with the rounding and limits of document 01.
 -- Closing a clock alters one mark in the sheet and no envelope, verdict, size or whole total."
 pub record Demand2 : Type 0 where
   -- "Envelopes": each is worked out by the rules, from the words and the earlier clocks of the sheet that the bytes spell
-  pub envelopes : (s : List ℕ) → AllBytes s → (o : Opened) (c : ℕ) → readSheet s ≡ got o c
-      → Legal (o .sheet) × Worked (o .sheet .words) (o .sheet .clocks) (o .table) × (s ≡ spellSheet (o .sheet)) × (c ≡ length s)
+  pub envelopes : (s : List ℕ) → AllBytes s → (o : Opened) → Passed s o → Legal (o .sheet) × Worked (o .sheet .words) (o .sheet .clocks) (o .table) × (s ≡ spellSheet (o .sheet))
   -- no sheet is refused that the rules give every envelope
   pub none-refused : (s : List ℕ) → AllBytes s → (v : Sheet) (xs : List Node) → Legal v → Worked (v .words) (v .clocks) xs → s ≡ spellSheet v
-      → readSheet s ≡ got (record { sheet = v; table = xs }) (length s)
+      → Passed s (record { sheet = v; table = xs })
+  -- what a clock can stand for lies in its envelope, and there is some stream that it can stand for
+  pub stands-inside : (s : List ℕ) → AllBytes s → (o : Opened) → Passed s o → (i : ℕ) (x : Node) → getElem? (o .table) i ≡ some x
+      → (a : Stream) → Stands (o .sheet .words) (o .sheet .clocks) (Expr.clock i) a → Lies a (x .envelope)
+  pub some-stream : (s : List ℕ) → AllBytes s → (o : Opened) → Passed s o → (i : ℕ) → i < length (o .sheet .clocks)
+      → (a : Stream) × Stands (o .sheet .words) (o .sheet .clocks) (Expr.clock i) a
   -- "verdicts and sizes"
   pub verdicts : (o : Opened) (l : Link) (x y : Node) → getElem? (o .table) (l .producer) ≡ some x → getElem? (o .table) (l .consumer) ≡ some y
       → rowOf o l .verdict ≡ verdictOf (x .envelope) (y .envelope)
-  -- and these are what is given, with both rooms
+  -- a size "is never below 0": the number that is carried is the quotient itself, with its sign
+  pub sizes : (e f : Envelope) → Taken e → Taken f → (size : ℕ) → verdictOf e f ≡ Accepted size → pos size ≡ sizeOf e f
+  -- and these are what is given, with both counts and both rooms
   pub given : (s : List ℕ) (clocks links : List ℤ) (r : Reply) (cs ls : List ℤ) → WorksOut s clocks links r cs ls
-      → (o : Opened) (c : ℕ) → readSheet s ≡ got o c → 4 * length (o .table) ≤ length clocks → 3 * length (o .sheet .links) ≤ length links
-      → (r .number ≡ 0) × (r .opened ≡ openRoom o) × (r .whole ≡ wholeRoom o)
+      → (o : Opened) → Passed s o → 4 * length (o .table) ≤ length clocks → 3 * length (o .sheet .links) ≤ length links
+      → (r .number ≡ 0) × (r .place ≡ 0) × (r .clocks ≡ length (o .table)) × (r .links ≡ length (o .sheet .links))
+      × (r .opened ≡ openRoom o) × (r .whole ≡ wholeRoom o)
       × (cs ≡ flats (o .table) ++ drop (4 * length (o .table)) clocks)
       × (ls ≡ flatRows (rowsOf o) ++ drop (3 * length (o .sheet .links)) links)
+  -- and what is listed, into a buffer that has room; no listing is longer than 18,463 bytes
+  pub listing : (s : List ℕ) (o : Opened) → Passed s o → (t u : List ℕ) (r : Listed) → ListsInto s t r u → length (sheetText o) ≤ length t
+      → (r ≡ Listed.Text (length (sheetText o))) × (u ≡ sheetText o ++ drop (length (sheetText o)) t)
+  pub listing-most : (s : List ℕ) → AllBytes s → (o : Opened) → Passed s o → length (sheetText o) ≤ 18_463
   -- "Closing a clock alters one mark in the sheet and no envelope, verdict, size or whole total"
   pub closing : (s : List ℕ) → AllBytes s → (i : ℕ) (r : Closing) (t : List ℕ) → Closes s i r t → ClosePromise s i r t
   -- any set of clocks, in any order
   pub any-set : (s : List ℕ) → AllBytes s → AnySet s
   -- a clock's expression is handed back as that very part of the sheet
-  pub quoting : (s : List ℕ) → AllBytes s → (i from : ℕ) (part : List ℕ) (r : QuoteReply) → Quotes s i from part r → QuotePromise s i from part r
+  pub quoting : (s : List ℕ) → AllBytes s → (i : ℕ) (at : ℕ × ℕ) (part : List ℕ) (from : ℕ × ℕ) (r : QuoteReply) → Quotes s i at part from → RepliesTo s i r → QuotePromise s i at part from r
 
 -- "3. For every envelope the program takes and every length up to 4,096, walking from the first pattern to the last meets each beginning of an endless
 -- stream in that envelope exactly once, in binary order, and nothing else. For every accepted link, whichever streams the two clocks can stand for, or any
 -- others inside their envelopes: after any number of instants, reads never exceed writes, and writes minus reads never exceed the size given."
 pub record Demand3 : Type 0 where
   pub walk : (e : Envelope) → Taken e → (m : ℕ) → m ≤ longest → Walks e m
-  pub links : (s : List ℕ) → AllBytes s → Served s
+  -- "check" answers inside exactly for those beginnings
+  pub inside : (e : Envelope) → Taken e → (p : List ℕ) (a : Answer) → Checks e p a → (a ≡ Inside) ↔ ((length p ≤ longest) × Begins e p)
+  -- link m of a sheet that is worked out: its verdict in the result slice is 0, accepted, and the number after that is the size given
+  pub links : (s : List ℕ) → AllBytes s → (clocks links : List ℤ) (r : Reply) (cs ls : List ℤ) → WorksOut s clocks links r cs ls → r .number ≡ 0
+      → (o : Opened) → Passed s o → (m : ℕ) (l : Link) → getElem? (o .sheet .links) m ≡ some l
+      → getD ls (3 * m) (pos 0) ≡ pos 0 → (size : ℕ) → getD ls (3 * m + 1) (pos 0) ≡ pos size
+      → (a b : Stream) → StreamOf o (l .producer) a → StreamOf o (l .consumer) b → Serves a b size

@@ -14,7 +14,7 @@ use Rattle.envelope.specs.declared.Span.{Span}
 use Rattle.envelope.specs.Stream.{ones}
 use Rattle.envelope.specs.Envelope.{resultOf}
 use Rattle.envelope.specs.Word.{bitAt, onesIn, wordBit, smallest, largest, offsets, wordOf}
-use Rattle.envelope.specs.Span.{withOf, spanOf}
+use Rattle.envelope.specs.Inner.Span.{withOf, spanOf}
 use Rattle.envelope.proofs.Counts.{ones-none, ones-one, ones-zero, same-ones}
 use Rattle.envelope.proofs.WordBits.{word-first}
 

@@ -2,7 +2,7 @@ pub mod Limits
 pub mod Stream
 pub mod Envelope
 pub mod Word
-pub mod Span
+pub mod Inner
 pub mod Standing
 pub mod Made
 pub mod Theory

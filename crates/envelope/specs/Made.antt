@@ -1,6 +1,5 @@
 -- What a node's rule makes of its parts: an envelope, or the reason why there is none, with document 01's number for it.
 use mathlib.Core.Bool.{cond}
-use mathlib.Core.Option.{Option, none, some}
 use Prim.Native.Nat.{ℕ, _≤_}
 use lib.IntN.{ℤ}
 use lib.Dec.{eqb}
@@ -14,12 +13,12 @@ use Rattle.envelope.specs.declared.Standing.the-variants.{Fine, BeyondLo
 use Rattle.envelope.specs.Envelope.{Limits, normalOf, notOf, onOf}
 use Rattle.envelope.specs.Standing.{beyondOf, hasRoom}
 
--- the refusal's number, where there is no envelope
-abbrev pub faultOf : Made → Option ℕ
-faultOf (Whole e) = none
-faultOf Empty = some empty
-faultOf FullRate = some fullRate
-faultOf Outgrown = some outgrown
+-- document 01's number for each: 0 where there is an envelope
+abbrev pub numberOf : Made → ℕ
+numberOf (Whole e) = 0
+numberOf Empty = empty
+numberOf FullRate = fullRate
+numberOf Outgrown = outgrown
 
 abbrev pub nodeOf : Envelope → Node
 nodeOf e = record { envelope = e }

@@ -9,7 +9,7 @@ ghost use Rattle.envelope.specs.Envelope.{Limits, Taken, resultOf, norma
 ghost use Rattle.envelope.specs.Word.{bitAt, onesIn, wordOf};
 ghost use Rattle.envelope.specs.Standing.{beyondOf, hasRoom, restOf, standingOf};
 ghost use Rattle.envelope.specs.Made.{Fields, declaredOf, limited, negatedOf, joinedOf};
-ghost use Rattle.envelope.specs.Span.{withOf, spanOf};
+ghost use Rattle.envelope.specs.Inner.Span.{withOf, spanOf};
 
 pub struct Envelope {
     pub k: i64,

@@ -5,38 +5,51 @@ use mathlib.Core.List.{List, [], _∷_}
 use Prim.Native.Nat.{ℕ, _≤_, _<_}
 use native.Mathlib.Omega.{arith}
 use lib.ListN.{length}
-use lib.Seq.{sets}
 use borrow.Author.Tests.{le-leb, lt-leb}
 use Rattle.field.specs.Read.{Read, Read.got, Read.refused}
 use Rattle.register.specs.declared.QuoteReply.{QuoteReply}
-use Rattle.register.specs.Quoting.{quotedPart, quoteReply}
-use Rattle.line.specs.Text.{Put}
-use Rattle.line.proofs.Puts.{put-none}
+use Rattle.register.specs.Quoting.{quotingOf, quotedPart, quoteReply, Quotes, RepliesTo}
+use Rattle.line.specs.Text.{Out, top, put, Put}
+use Rattle.line.proofs.Puts.{put-at, put-fits}
 use Rattle.report.specs.Listing.{over}
 use Rattle.export.specs.Flat.{short, copied, quoteWritten}
+use Rattle.export.specs.Promise.{Copies}
 
 -- a part that is not empty is no refusal's
-pub reply-quoted : (x : Read ℕ) (s p : List ℕ) → p ≡ quotedPart x s → length p ≢ 0 → record { number = 0; place = 0 } ≡ quoteReply x
+reply-quoted : (x : Read ℕ) (s p : List ℕ) → p ≡ quotedPart x s → length p ≢ 0 → record { number = 0; place = 0 } ≡ quoteReply x
 reply-quoted (got from to) s p p-is h = refl
 reply-quoted (refused number place) s p p-is h = absurd (h (ap length p-is))
 
 put-empty : (p out : List ℕ) → length p ≡ 0 → Put out 0 p out 0
-put-empty [] out h = put-none out 0
+unfolding put
+put-empty [] out h = refl
 put-empty (x ∷ p) out h = absurd (omega arith)
 
--- p and q are what was handed back for the part and the reply
-module _ (p part out : List ℕ) (p-is : p ≡ part) (q r : QuoteReply) (q-is : q ≡ r) where
-  pub part-short : length out < length p → (short ≡ quoteWritten r part (length out)) × (out ≡ over part out)
-  part-short h =
-      let less : length out < length part = omega (arith, ap length p-is) in
-      rw (lt-leb (length part) (length out) less) (refl, refl)
+-- p is what was handed back for the part, q for the reply
+module _ (p out : List ℕ) (q : QuoteReply) (room : length out ≤ top) where
+  part-short : length out < length p → (short ≡ quoteWritten q p (length out)) × (out ≡ over p out)
+  part-short h = rw (lt-leb (length p) (length out) h) (refl, refl)
 
-  pub part-fits : length p ≤ length out → (out′ : List ℕ) (n : ℕ) → Put out 0 p out′ n → (copied q n ≡ quoteWritten r part (length out)) × (out′ ≡ over part out)
+  part-fits : length p ≤ length out → (out′ : List ℕ) (n : ℕ) → Put out 0 p out′ n → (copied q n ≡ quoteWritten q p (length out)) × (out′ ≡ over p out)
   part-fits h out′ n put =
-      let most : length part ≤ length out = omega (arith, ap length p-is) in
-      let past : n ≡ length part = omega (arith, put .past, ap length p-is) in
-      rw (le-leb (length part) (length out) most)
-      (ap (λ (x : QuoteReply). copied x n) q-is ∙ ap (λ (m : ℕ). copied r m) past, put .bytes ∙ ap (λ (t : List ℕ). sets out 0 t) p-is)
+      let past : n ≡ length p = omega (arith, put-at out out′ p 0 n (omega arith) put) in
+      rw (le-leb (length p) (length out) h)
+      (ap (λ (m : ℕ). copied q m) past, ap (λ (o : Out). o .bytes) put ∙ put-fits out 0 p (omega arith) room)
 
-  pub part-empty : length p ≡ 0 → (copied q 0 ≡ quoteWritten r part (length out)) × (out ≡ over part out)
-  part-empty h = part-fits (omega arith) out 0 (put-empty p out h)
+-- ---- the contract, where the part lies at `from` in the sheet's memory
+module _ {s : List ℕ} {i : ℕ} {at : ℕ × ℕ} {p : List ℕ} {from : ℕ × ℕ} (quoted : Quotes s i at p from) (out : List ℕ) (room : length out ≤ top) where
+  pub copies-short : length out < length p → Copies s i at out short out
+  copies-short h =
+      let w = part-short p out (quoteReply (quotingOf s i)) room h in
+      record { part = p; from = from; answer = quoteReply (quotingOf s i); quoted = quoted; replied = record { reply-is = refl }; reply-is = w .0; out-is = w .1 }
+
+  pub copies-fits : length p ≢ 0 → length p ≤ length out → (out′ : List ℕ) (n : ℕ) → Put out 0 p out′ n → Copies s i at out (record { number = 0; place = 0; length = n }) out′
+  copies-fits some h out′ n put =
+      let q : QuoteReply = record { number = 0; place = 0 } in
+      let w = part-fits p out q room h out′ n put in
+      record { part = p; from = from; answer = q; quoted = quoted; replied = record { reply-is = reply-quoted (quotingOf s i) s p (quoted .part-is) some }; reply-is = w .0; out-is = w .1 }
+
+  pub copies-none : length p ≡ 0 → (q : QuoteReply) → RepliesTo s i q → Copies s i at out (copied q 0) out
+  copies-none h q replied =
+      let w = part-fits p out q room (omega arith) out 0 (put-empty p out h) in
+      record { part = p; from = from; answer = q; quoted = quoted; replied = replied; reply-is = w .0; out-is = w .1 }

@@ -1,12 +1,11 @@
 // The library's entry points under C's calling convention, prefix `txori_`. A slice is a pointer and then a length.
 ghost use mathlib.Core.Path.{_≡_};
-ghost use lib.ListN.{length};
-ghost use Rattle.sheet.specs.WorkOut.{workedOf, replyOf, clocksOut, linksOut};
-ghost use Rattle.register.specs.Closing.{closingOf, closingReply, closedBytes};
-ghost use Rattle.register.specs.Quoting.{quotingOf, quotedPart, quoteReply};
-ghost use Rattle.pattern.specs.Answer.{given, checkAnswer, firstAnswer, firstBytes, nextAnswer, nextBytes};
-ghost use Rattle.report.specs.Listing.{over, listedOf, textAfter};
-ghost use Rattle.export.specs.Flat.{workOutReply, closeReply, answerReply, quoteWritten, listWritten};
+ghost use Rattle.sheet.specs.WorkOut.{WorksOut};
+ghost use Rattle.register.specs.Closing.{Closes};
+ghost use Rattle.pattern.specs.Answer.{given, Checks, Firsts, Nexts};
+ghost use Rattle.report.specs.Listing.{ListsInto};
+ghost use Rattle.export.specs.Flat.{workOutReply, closeReply, answerReply, listWritten};
+ghost use Rattle.export.specs.Promise.{As, Copies};
 use pattern::Answer;
 use register::Closing;
 use report::Listed;
@@ -46,9 +45,7 @@ pub extern "C" fn txori_work_out(
     clocks: &mut [i64],
     links: &mut [i64],
 ) -> TxoriWorkOut
-    ensures reply { λ r. ⌜ r ≡ workOutReply (replyOf (workedOf (now (sheet .entry)) (length (now (clocks .entry))) (length (now (links .entry))))) ⌝ }
-    ensures clocks { λ _. ⌜ now (clocks .exit) ≡ clocksOut (workedOf (now (sheet .entry)) (length (now (clocks .entry))) (length (now (links .entry)))) (now (clocks .entry)) ⌝ }
-    ensures links { λ _. ⌜ now (links .exit) ≡ linksOut (workedOf (now (sheet .entry)) (length (now (clocks .entry))) (length (now (links .entry)))) (now (links .entry)) ⌝ }
+    ensures { λ r. ⌜ As workOutReply (λ a. WorksOut (now (sheet .entry)) (now (clocks .entry)) (now (links .entry)) a (now (clocks .exit)) (now (links .exit))) r ⌝ }
 {
     let r = sheet::work_out(sheet, clocks, links);
     TxoriWorkOut {
@@ -63,8 +60,7 @@ pub extern "C" fn txori_work_out(
 
 #[no_mangle]
 pub extern "C" fn txori_close(sheet: &mut [u8], clock: usize) -> TxoriReply
-    ensures reply { λ r. ⌜ r ≡ closeReply (closingReply (closingOf (now (sheet .entry)) clock)) ⌝ }
-    ensures bytes { λ _. ⌜ now (sheet .exit) ≡ closedBytes (closingOf (now (sheet .entry)) clock) (now (sheet .entry)) ⌝ }
+    ensures { λ r. ⌜ As closeReply (λ a. Closes (now (sheet .entry)) clock a (now (sheet .exit))) r ⌝ }
 {
     match register::close(sheet, clock) {
         Closing::Closed(place) => TxoriReply {
@@ -81,8 +77,7 @@ pub extern "C" fn txori_close(sheet: &mut [u8], clock: usize) -> TxoriReply
 // The part is copied, since no reference crosses as a result, and not begun where it can't be held. Only a refusal's is empty.
 #[no_mangle]
 pub extern "C" fn txori_quote(sheet: &[u8], clock: usize, out: &mut [u8]) -> TxoriWritten
-    ensures reply { λ r. ⌜ r ≡ quoteWritten (quoteReply (quotingOf (now (sheet .entry)) clock)) (quotedPart (quotingOf (now (sheet .entry)) clock) (now (sheet .entry))) (length (now (out .entry))) ⌝ }
-    ensures bytes { λ _. ⌜ now (out .exit) ≡ over (quotedPart (quotingOf (now (sheet .entry)) clock) (now (sheet .entry))) (now (out .entry)) ⌝ }
+    ensures { λ r. ⌜ Copies (now (sheet .entry)) clock (sheet .entry .ptr) (now (out .entry)) r (now (out .exit)) ⌝ }
 {
     let part = register::quote(sheet, clock);
     if part.len() == 0 {
@@ -110,8 +105,7 @@ pub extern "C" fn txori_quote(sheet: &[u8], clock: usize, out: &mut [u8]) -> Txo
 
 #[no_mangle]
 pub extern "C" fn txori_list(sheet: &[u8], text: &mut [u8]) -> TxoriWritten
-    ensures reply { λ r. ⌜ r ≡ listWritten (listedOf (now (sheet .entry)) (length (now (text .entry)))) ⌝ }
-    ensures text { λ _. ⌜ now (text .exit) ≡ textAfter (now (sheet .entry)) (now (text .entry)) ⌝ }
+    ensures { λ r. ⌜ As listWritten (λ a. ListsInto (now (sheet .entry)) (now (text .entry)) a (now (text .exit))) r ⌝ }
 {
     match report::list(sheet, text) {
         Listed::Text(length) => TxoriWritten {
@@ -122,6 +116,11 @@ pub extern "C" fn txori_list(sheet: &[u8], text: &mut [u8]) -> TxoriWritten
         Listed::Short => TxoriWritten {
             number: reply::SHORT_RESULT as u64,
             place: 0,
+            length: 0,
+        },
+        Listed::Refused(number, place) => TxoriWritten {
+            number: number as u64,
+            place: place as u64,
             length: 0,
         },
     }
@@ -153,23 +152,21 @@ fn flat(answer: Answer) -> TxoriReply
 
 #[no_mangle]
 pub extern "C" fn txori_check(k: i64, K: i64, l: u64, n: u64, pattern: &[u8]) -> TxoriReply
-    ensures { λ r. ⌜ r ≡ answerReply (checkAnswer (given k K l n) (now (pattern .entry))) ⌝ }
+    ensures { λ r. ⌜ As answerReply (λ a. Checks (given k K l n) (now (pattern .entry)) a) r ⌝ }
 {
     flat(pattern::check(k, K, l, n, pattern))
 }
 
 #[no_mangle]
 pub extern "C" fn txori_first(k: i64, K: i64, l: u64, n: u64, pattern: &mut [u8]) -> TxoriReply
-    ensures reply { λ r. ⌜ r ≡ answerReply (firstAnswer (given k K l n) (now (pattern .entry))) ⌝ }
-    ensures bytes { λ _. ⌜ now (pattern .exit) ≡ firstBytes (given k K l n) (now (pattern .entry)) ⌝ }
+    ensures { λ r. ⌜ As answerReply (λ a. Firsts (given k K l n) (now (pattern .entry)) a (now (pattern .exit))) r ⌝ }
 {
     flat(pattern::first(k, K, l, n, pattern))
 }
 
 #[no_mangle]
 pub extern "C" fn txori_next(k: i64, K: i64, l: u64, n: u64, pattern: &mut [u8]) -> TxoriReply
-    ensures reply { λ r. ⌜ r ≡ answerReply (nextAnswer (given k K l n) (now (pattern .entry))) ⌝ }
-    ensures bytes { λ _. ⌜ now (pattern .exit) ≡ nextBytes (given k K l n) (now (pattern .entry)) ⌝ }
+    ensures { λ r. ⌜ As answerReply (λ a. Nexts (given k K l n) (now (pattern .entry)) a (now (pattern .exit))) r ⌝ }
 {
     flat(pattern::next(k, K, l, n, pattern))
 }

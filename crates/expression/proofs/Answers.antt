@@ -18,9 +18,11 @@ use Rattle.envelope.specs.Envelope.{Taken}
 use Rattle.envelope.specs.Made.{negatedOf, joinedOf}
 use Rattle.expression.specs.Evaluate.{worthOf, listed}
 use Rattle.expression.specs.Reader.{exprAt, nodeIn}
-use Rattle.expression.specs.Table.{Holds, nodesIn, nodeAt}
-use Rattle.expression.specs.Parts.{placed, listedAt, declaredAt}
+use Rattle.expression.specs.Inner.Nodes.{Holds, nodesIn, nodeAt}
+use Rattle.expression.specs.Inner.Parts.{placed, listedAt, declaredAt}
 use Rattle.expression.proofs.Tables.{nodes-many, node-at}
+use Rattle.expression.proofs.Descent.{descend}
+use Rattle.expression.proofs.Format.{descends}
 use Rattle.expression.proofs.Strip.{listedIn, valueBy, valueAt, value-strip}
 use Rattle.expression.proofs.Results.{value-taken}
 
@@ -49,15 +51,15 @@ module _ (s : List ℕ) (ws cs : List ℤ) where
 
   -- no tag
   pub tag-refused : (d a number at : ℕ) → fieldIn 1 1 6 unknown s a ≡ refused number at → answer s ws cs d a ≡ refused number at
-  unfolding exprAt
-  tag-refused zero a number at e = rw e
-  tag-refused (suc d) a number at e = rw e
+  unfolding descend
+  tag-refused zero a number at e = ap (mapped nodeIn) (descends s (nodesIn ws) (nodesIn cs) zero a) ∙ rw e
+  tag-refused (suc d) a number at e = ap (mapped nodeIn) (descends s (nodesIn ws) (nodesIn cs) (suc d) a) ∙ rw e
 
   module _ (a tag c : ℕ) (read : fieldIn 1 1 6 unknown s a ≡ got tag c) where
     -- no level left
     pub too-deep : (d : ℕ) → d ≡ 0 → answer s ws cs d a ≡ refused tooDeep a
-    unfolding exprAt
-    too-deep d e = rw (e, read)
+    unfolding descend
+    too-deep d e = ap (mapped nodeIn) (descends s (nodesIn ws) (nodesIn cs) d a) ∙ rw (e, read)
 
     module _ (d : ℕ) (left : 0 < d) where
       by-tag : (t : ℕ) → tag ≡ t → answer s ws cs d a ≡ valueBy s (nodesIn ws) (nodesIn cs) (valueAt (d - 1) s (nodesIn ws) (nodesIn cs)) a t c

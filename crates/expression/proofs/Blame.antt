@@ -20,7 +20,10 @@ use Rattle.envelope.specs.Made.{Fields, negatedOf, joinedOf}
 use Rattle.expression.specs.Expression.{Expr, depth, spell}
 use Rattle.expression.specs.Expression.Expr.{word, declared, negated, on, clock}
 use Rattle.expression.specs.Evaluate.{Worth, Worth.whole, Worth.fault, worthOf, onward, listed, declaredWorth, evaluate}
-use Rattle.expression.specs.Reader.{Valued, place, node, exprAt}
+use Rattle.expression.specs.Reader.{exprAt}
+use Rattle.expression.specs.Format.{Valued}
+use Rattle.expression.proofs.Descent.{place, node, descend}
+use Rattle.expression.proofs.Format.{descends}
 use Rattle.expression.specs.Spelled.{indexes, InRange}
 use Rattle.expression.specs.Blame.{faulty, blame}
 
@@ -72,36 +75,40 @@ on-placed x y (fault number) o part a b b′ e c size h k =
 
 -- ---- an expression
 module _ (s : List ℕ) (ws cs : List Node) (hw : length ws ≤ indexes) (hc : length cs ≤ indexes) where
-  after-tag : (d a t : ℕ) (xs : List ℕ) (c : ℕ) → 1 ≤ t → t < 6 → Bytes s a (t ∷ xs) c → exprAt (suc d) s ws cs a ≡ node s ws cs (exprAt d s ws cs) a t (suc a)
-  unfolding exprAt
+  after-tag : (d a t : ℕ) (xs : List ℕ) (c : ℕ) → 1 ≤ t → t < 6 → Bytes s a (t ∷ xs) c → descend (suc d) s ws cs a ≡ node s ws cs (descend d s ws cs) a t (suc a)
+  unfolding descend
   after-tag d a t xs c low high b = rw (byteIn-got s 1 6 unknown a t (suc a) low high (omega arith) (first b .0))
+
+  met : (x : Expr) (d a c : ℕ) → InRange (length ws) (length cs) x → depth x ≤ d → Bytes s a (spell x) c
+      → descend d s ws cs a ≡ place x (evaluate ws cs x) c (a + blame ws cs x)
+  unfolding depth evaluate spell node blame
+  met (word i) zero a c r p b = absurd (omega arith)
+  met (word i) (suc d) a c r p b =
+      after-tag d a 1 _ c (omega arith) (omega arith) b
+      ∙ rw (index-read s (length ws) i (suc a) c hw r (tail b)) (at-tag (word i) (listed (getElem? ws i)) a c)
+  met (declared k K l n) zero a c r p b = absurd (omega arith)
+  met (declared k K l n) (suc d) a c r p b =
+      after-tag d a 2 _ c (omega arith) (omega arith) b
+      ∙ fields-read s k K l n (suc a) a c r (tail b) ∙ at-tag (declared k K l n) (declaredWorth k K l n) a c
+  met (negated x) zero a c r p b = absurd (omega arith)
+  met (negated x) (suc d) a c r p b =
+      after-tag d a 3 _ c (omega arith) (omega arith) b
+      ∙ rw (met x d (suc a) c r (omega arith) (tail b)) (negated-placed x (evaluate ws cs x) a (blame ws cs x) c)
+  met (on x y) zero a c r p b = absurd (omega arith)
+  met (on x y) (suc d) a c r p b =
+      let k = split (spell x) (spell y) (tail b) in
+      after-tag d a 4 _ c (omega arith) (omega arith) b
+      ∙ rw (met x d (suc a) (k .0) (r .0) (omega arith) (k .1))
+      (on-placed x y (evaluate ws cs x) (evaluate ws cs y) (descend d s ws cs) a (blame ws cs x) (blame ws cs y) (k .0) c (length (spell x))
+      (met y d (k .0) c (r .1) (omega arith) (k .2)) (end (k .1) .0))
+  met (clock i) zero a c r p b = absurd (omega arith)
+  met (clock i) (suc d) a c r p b =
+      after-tag d a 5 _ c (omega arith) (omega arith) b
+      ∙ rw (index-read s (length cs) i (suc a) c hc r (tail b)) (at-tag (clock i) (listed (getElem? cs i)) a c)
 
   pub answered : (x : Expr) (d a c : ℕ) → InRange (length ws) (length cs) x → depth x ≤ d → Bytes s a (spell x) c
       → exprAt d s ws cs a ≡ place x (evaluate ws cs x) c (a + blame ws cs x)
-  unfolding depth evaluate spell node blame
-  answered (word i) zero a c r p b = absurd (omega arith)
-  answered (word i) (suc d) a c r p b =
-      after-tag d a 1 _ c (omega arith) (omega arith) b
-      ∙ rw (index-read s (length ws) i (suc a) c hw r (tail b)) (at-tag (word i) (listed (getElem? ws i)) a c)
-  answered (declared k K l n) zero a c r p b = absurd (omega arith)
-  answered (declared k K l n) (suc d) a c r p b =
-      after-tag d a 2 _ c (omega arith) (omega arith) b
-      ∙ fields-read s k K l n (suc a) a c r (tail b) ∙ at-tag (declared k K l n) (declaredWorth k K l n) a c
-  answered (negated x) zero a c r p b = absurd (omega arith)
-  answered (negated x) (suc d) a c r p b =
-      after-tag d a 3 _ c (omega arith) (omega arith) b
-      ∙ rw (answered x d (suc a) c r (omega arith) (tail b)) (negated-placed x (evaluate ws cs x) a (blame ws cs x) c)
-  answered (on x y) zero a c r p b = absurd (omega arith)
-  answered (on x y) (suc d) a c r p b =
-      let k = split (spell x) (spell y) (tail b) in
-      after-tag d a 4 _ c (omega arith) (omega arith) b
-      ∙ rw (answered x d (suc a) (k .0) (r .0) (omega arith) (k .1))
-      (on-placed x y (evaluate ws cs x) (evaluate ws cs y) (exprAt d s ws cs) a (blame ws cs x) (blame ws cs y) (k .0) c (length (spell x))
-      (answered y d (k .0) c (r .1) (omega arith) (k .2)) (end (k .1) .0))
-  answered (clock i) zero a c r p b = absurd (omega arith)
-  answered (clock i) (suc d) a c r p b =
-      after-tag d a 5 _ c (omega arith) (omega arith) b
-      ∙ rw (index-read s (length cs) i (suc a) c hc r (tail b)) (at-tag (clock i) (listed (getElem? cs i)) a c)
+  answered x d a c r p b = descends s ws cs d a ∙ met x d a c r p b
 
   -- one that the rules refuse
   pub fault-read : (x : Expr) (d a number c : ℕ) → InRange (length ws) (length cs) x → depth x ≤ d → Bytes s a (spell x) c → evaluate ws cs x ≡ fault number

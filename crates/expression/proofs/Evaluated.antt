@@ -25,7 +25,7 @@ use Rattle.envelope.proofs.Taken.{declared-taken, not-taken, on-taken}
 use Rattle.expression.specs.Expression.{Expr}
 use Rattle.expression.specs.Expression.Expr.{word, declared, negated, on, clock}
 use Rattle.expression.specs.Evaluate.{Worth, Worth.whole, Worth.fault, worthOf, onward, listed, fieldsKept, declaredWorth, evaluate}
-use Rattle.expression.specs.Table.{AllTaken}
+use Rattle.expression.specs.Inner.Nodes.{AllTaken}
 use Rattle.expression.specs.Spelled.{InRange}
 use Rattle.expression.proofs.Lookup.{lookup-below}
 

@@ -15,7 +15,7 @@ use Rattle.field.proofs.SignedFields.{betweenZ-holds, signedIn-passed}
 use Rattle.envelope.specs.Limits.{lMost, lowerLeast, lowerMost, upperLeast, upperMost}
 use Rattle.envelope.specs.Made.{Fields, declaredOf}
 use Rattle.expression.specs.Evaluate.{worthOf, fieldsKept, declaredWorth}
-use Rattle.expression.specs.Parts.{placed, declaredAt}
+use Rattle.expression.specs.Inner.Parts.{placed, declaredAt}
 
 module _ (k K : ℤ) (l n : ℕ) where
   -- within their limits they pass the test

@@ -1,4 +1,7 @@
 pub mod Lookup
+pub mod Fields
+pub mod Descent
+pub mod Format
 pub mod Evaluated
 pub mod Sound
 pub mod Exists
@@ -9,5 +12,4 @@ pub mod Promise
 pub mod Tables
 pub mod Strip
 pub mod Results
-pub mod Fields
 pub mod Answers

@@ -1,8 +1,8 @@
 -- Laws of entries of lists. Assumes nothing.
-use mathlib.Core.Path.{_≡_, refl}
+use mathlib.Core.Path.{_≡_, refl, sym}
 use mathlib.Core.List.{List, [], _∷_, map}
 use mathlib.Core.Option.{Option, none, some}
-use Prim.Native.Nat.{ℕ, zero, suc, _<_}
+use Prim.Native.Nat.{ℕ, zero, suc, _≤_, _<_}
 use native.Mathlib.Omega.{arith}
 use lib.ListN.{length, take, getElem?}
 
@@ -14,6 +14,11 @@ module _ {A : Type 0} where
   lookup-below [] i x h = none-some h
   lookup-below (y ∷ xs) zero x h = omega arith
   lookup-below (y ∷ xs) (suc i) x h = omega (arith, lookup-below xs i x h)
+
+  pub lookup-none : (xs : List A) (i : ℕ) → getElem? xs i ≡ none → length xs ≤ i
+  lookup-none [] i h = omega arith
+  lookup-none (x ∷ xs) zero h = none-some (sym h)
+  lookup-none (x ∷ xs) (suc i) h = omega (arith, lookup-none xs i h)
 
   pub lookup-there : (xs : List A) (i : ℕ) → i < length xs → (x : A) × (getElem? xs i ≡ some x)
   lookup-there [] i h = absurd (omega arith)

@@ -10,7 +10,7 @@ use Rattle.envelope.specs.declared.Node.{Node}
 use Rattle.expression.specs.declared.Value.{Value}
 use Rattle.expression.specs.Expression.{Word, Clock}
 use Rattle.expression.specs.Evaluate.{Worked}
-use Rattle.expression.specs.Table.{AllTaken}
+use Rattle.expression.specs.Inner.Nodes.{AllTaken}
 use Rattle.expression.specs.Spelled.{indexes}
 use Rattle.expression.specs.Promise.{AllLegal, Meaning, Reading, OneAnswer}
 use Rattle.expression.proofs.Evaluated.{evaluate-taken}

@@ -18,7 +18,10 @@ use Rattle.envelope.specs.Made.{negatedOf, joinedOf}
 use Rattle.expression.specs.Expression.{Expr, depth, spell}
 use Rattle.expression.specs.Expression.Expr.{word, declared, negated, on, clock}
 use Rattle.expression.specs.Evaluate.{Worth, Worth.whole, Worth.fault, worthOf, onward, listed, evaluate}
-use Rattle.expression.specs.Reader.{Valued, place, node, exprAt}
+use Rattle.expression.specs.Reader.{exprAt}
+use Rattle.expression.specs.Format.{Valued}
+use Rattle.expression.proofs.Descent.{place, node, descend}
+use Rattle.expression.proofs.Format.{descends}
 use Rattle.expression.specs.Spelled.{indexes, Spelled}
 use Rattle.expression.specs.Blame.{blame}
 use Rattle.expression.proofs.Evaluated.{evaluate-range}
@@ -82,13 +85,16 @@ module _ (s : List ℕ) (bytes : AllBytes s) (ws cs : List Node) where
       finish (suc d) a (clock i) (listed (getElem? cs i)) (r .1) a y b (r .3) (omega arith) refl
       (join (subst (λ (t : ℕ). Bytes s a (t ∷ []) c) z p) (fieldIn-bytes s bytes 2 0 (length cs) absent c i (r .1) (r .2) .3))
 
-  pub reads : (d a : ℕ) (y : Valued) (c : ℕ) → exprAt d s ws cs a ≡ got y c → Spelled s ws cs d a (y .expr) (y .node) c
-  unfolding exprAt
-  reads zero a y c h = refused-got (through (fieldIn 1 1 6 unknown s a) _ y c h .3)
-  reads (suc d) a y c h =
+  descent-reads : (d a : ℕ) (y : Valued) (c : ℕ) → descend d s ws cs a ≡ got y c → Spelled s ws cs d a (y .expr) (y .node) c
+  unfolding descend
+  descent-reads zero a y c h = refused-got (through (fieldIn 1 1 6 unknown s a) _ y c h .3)
+  descent-reads (suc d) a y c h =
       let r = through (fieldIn 1 1 6 unknown s a) _ y c h in
       let b = byteIn-bytes s bytes 1 6 unknown a (r .0) (r .1) (r .2) in
-      node-reads d (exprAt d s ws cs) (λ b y c k. reads d b y c k) a (r .0) (r .1) y c (b .1) (b .2) (r .3)
+      node-reads d (descend d s ws cs) (λ b y c k. descent-reads d b y c k) a (r .0) (r .1) y c (b .1) (b .2) (r .3)
+
+  pub reads : (d a : ℕ) (y : Valued) (c : ℕ) → exprAt d s ws cs a ≡ got y c → Spelled s ws cs d a (y .expr) (y .node) c
+  reads d a y c h = descent-reads d a y c (sym (descends s ws cs d a) ∙ h)
 
 -- ---- and what is spelled there is accepted
 pub spelled-read : (s : List ℕ) (ws cs : List Node) → length ws ≤ indexes → length cs ≤ indexes → (d a : ℕ) (x : Expr) (e : Node) (c : ℕ)

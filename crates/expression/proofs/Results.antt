@@ -13,8 +13,8 @@ use Rattle.envelope.specs.Limits.{lMost, lowerLeast, lowerMost, upperLeast, upp
 use Rattle.envelope.specs.Envelope.{Taken}
 use Rattle.envelope.specs.Made.{negatedOf, joinedOf}
 use Rattle.expression.specs.Evaluate.{Worth, Worth.whole, Worth.fault, worthOf, listed, declaredWorth}
-use Rattle.expression.specs.Table.{AllTaken}
-use Rattle.expression.specs.Parts.{placed, declaredAt}
+use Rattle.expression.specs.Inner.Nodes.{AllTaken}
+use Rattle.expression.specs.Inner.Parts.{placed, declaredAt}
 use Rattle.expression.proofs.Strip.{listedIn, valueBy, valueAt}
 use Rattle.expression.proofs.Evaluated.{listed-whole, declared-result, negated-result, joined-result}
 

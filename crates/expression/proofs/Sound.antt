@@ -20,7 +20,7 @@ use Rattle.envelope.proofs.Taken.{word-taken}
 use Rattle.expression.specs.Expression.{Word, Expr, Clock}
 use Rattle.expression.specs.Stands.{Stands, Stands.word, Stands.declared, Stands.negated, Stands.on, Stands.clock}
 use Rattle.expression.specs.Evaluate.{Worth.whole, evaluate, wordNode, wordNodes, Worked}
-use Rattle.expression.specs.Table.{AllTaken}
+use Rattle.expression.specs.Inner.Nodes.{AllTaken}
 use Rattle.expression.specs.Promise.{AllLegal}
 use Rattle.expression.proofs.Lookup.{lookup-below, lookup-there, lookup-take, lookup-map}
 use Rattle.expression.proofs.Evaluated.{Result, onward-whole, listed-whole, declared-result, negated-result, joined-result, evaluate-taken}

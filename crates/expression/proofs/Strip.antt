@@ -12,8 +12,11 @@ use Rattle.envelope.specs.Limits.{lMost, lowerLeast, lowerMost, upperLeast, upp
 use Rattle.envelope.specs.Made.{negatedOf, joinedOf}
 use Rattle.expression.specs.Expression.{Expr}
 use Rattle.expression.specs.Evaluate.{Worth, Worth.whole, Worth.fault, worthOf, listed, declaredWorth}
-use Rattle.expression.specs.Reader.{Valued, place, node, exprAt, nodeIn}
-use Rattle.expression.specs.Parts.{placed, declaredAt}
+use Rattle.expression.specs.Reader.{exprAt, nodeIn}
+use Rattle.expression.specs.Format.{Valued}
+use Rattle.expression.proofs.Descent.{place, node, descend}
+use Rattle.expression.proofs.Format.{descends}
+use Rattle.expression.specs.Inner.Parts.{placed, declaredAt}
 
 -- a node of a list, by the index at a
 unfoldable pub listedIn : List ℕ → List Node → ℕ → ℕ → Read Node
@@ -79,9 +82,12 @@ module _ (s : List ℕ) (ws cs : List Node) where
   strip-node part value h a (suc (suc (suc (suc (suc n))))) c =
       strip-field (fieldIn 2 0 (length cs) absent s c) _ _ λ i d. strip-place (Expr.clock i) (listed (getElem? cs i)) d a
 
-  pub value-strip : (d a : ℕ) → mapped nodeIn (exprAt d s ws cs a) ≡ valueAt d s ws cs a
-  unfolding exprAt valueAt
-  value-strip zero a = strip-field (fieldIn 1 1 6 unknown s a) _ _ λ tag c. refl
-  value-strip (suc d) a =
+  strip : (d a : ℕ) → mapped nodeIn (descend d s ws cs a) ≡ valueAt d s ws cs a
+  unfolding descend valueAt
+  strip zero a = strip-field (fieldIn 1 1 6 unknown s a) _ _ λ tag c. refl
+  strip (suc d) a =
       strip-field (fieldIn 1 1 6 unknown s a) _ _ λ tag c.
-      strip-node (exprAt d s ws cs) (valueAt d s ws cs) (λ b. value-strip d b) a tag c
+      strip-node (descend d s ws cs) (valueAt d s ws cs) (λ b. strip d b) a tag c
+
+  pub value-strip : (d a : ℕ) → mapped nodeIn (exprAt d s ws cs a) ≡ valueAt d s ws cs a
+  value-strip d a = ap (mapped nodeIn) (descends s ws cs d a) ∙ strip d a

@@ -12,7 +12,8 @@ use mir.Val.{SFits, toZ, ofZ}
 use mir.Facts.{toZ-ofZ}
 use Rattle.whole.proofs.Bridge.{sfits-reads, sfits-shows}
 use Rattle.envelope.specs.declared.Node.{Node}
-use Rattle.expression.specs.Table.{nodeFrom, nodesIn, flat, flats, nodeAt, AllTaken, Holds}
+use Rattle.expression.specs.Table.{flat, flats}
+use Rattle.expression.specs.Inner.Nodes.{nodeFrom, nodesIn, nodeAt, AllTaken, Holds}
 
 -- ---- the nodes of a slice
 

@@ -7,7 +7,7 @@ use Prim.Native.Nat.{ℕ}
 use lib.IntN.{ℤ}
 use lib.Dec.{leb}
 use lib.ListN.{length, take, getElem?}
-use Rattle.reply.specs.Numbers.{beyond, absent, empty, fullRate, outgrown}
+use Rattle.reply.specs.Numbers.{beyond, absent}
 use Rattle.field.specs.Read.{pick}
 use Rattle.field.specs.Field.{betweenZ}
 use Rattle.envelope.specs.declared.Node.{Node}
@@ -15,7 +15,7 @@ use Rattle.envelope.specs.declared.Made.{Made}
 use Rattle.envelope.specs.declared.Made.the-variants.{Whole, Empty, FullRate, Outgrown}
 use Rattle.envelope.specs.Limits.{lMost, lowerLeast, lowerMost, upperLeast, upperMost}
 use Rattle.envelope.specs.Word.{wordOf}
-use Rattle.envelope.specs.Made.{nodeOf, declaredOf, negatedOf, joinedOf}
+use Rattle.envelope.specs.Made.{numberOf, nodeOf, declaredOf, negatedOf, joinedOf}
 use Rattle.expression.specs.Expression.{Word, Expr, Clock}
 use Rattle.expression.specs.Expression.Expr.{word, declared, negated, on, clock}
 
@@ -26,9 +26,9 @@ pub data Worth : Type 0 where
 -- what a rule makes, with the number that refuses it
 abbrev pub worthOf : Made → Worth
 worthOf (Whole x) = whole x
-worthOf Empty = fault empty
-worthOf FullRate = fault fullRate
-worthOf Outgrown = fault outgrown
+worthOf Empty = fault (numberOf Empty)
+worthOf FullRate = fault (numberOf FullRate)
+worthOf Outgrown = fault (numberOf Outgrown)
 
 abbrev pub onward : Worth → (Node → Worth) → Worth
 onward (whole x) go = go x

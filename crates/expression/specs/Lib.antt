@@ -1,9 +1,10 @@
 pub mod Expression
 pub mod Stands
 pub mod Evaluate
+pub mod Format
 pub mod Reader
 pub mod Table
-pub mod Parts
 pub mod Spelled
 pub mod Blame
 pub mod Promise
+pub mod Inner

@@ -14,8 +14,9 @@ use Rattle.expression.specs.declared.Value.{Value}
 use Rattle.expression.specs.Expression.{Word, Expr, Clock, depth, spell}
 use Rattle.expression.specs.Stands.{Stands}
 use Rattle.expression.specs.Evaluate.{Worth.whole, Worth.fault, evaluate, wordNodes}
-use Rattle.expression.specs.Reader.{Valued, exprAt, valueOf}
-use Rattle.expression.specs.Table.{AllTaken}
+use Rattle.expression.specs.Reader.{exprAt, valueOf}
+use Rattle.expression.specs.Format.{Valued}
+use Rattle.expression.specs.Inner.Nodes.{AllTaken}
 use Rattle.expression.specs.Spelled.{Fits, InRange, Spelled}
 use Rattle.expression.specs.Blame.{blame}
 

@@ -1,24 +1,7 @@
 -- Nodes in a lent slice, four numbers each: k, K, l, n.
-use mathlib.Core.Path.{_≡_}
 use mathlib.Core.List.{List, [], _∷_, _++_}
-use mathlib.Core.Option.{some}
-use Prim.Native.Nat.{ℕ, _+_, _*_}
-use lib.IntN.{ℤ, pos, natAbs}
-use lib.ListN.{getD, getElem?}
+use lib.IntN.{ℤ, pos}
 use Rattle.envelope.specs.declared.Node.{Node}
-use Rattle.envelope.specs.Envelope.{Taken}
-use Rattle.envelope.specs.Made.{nodeOf}
-
-abbrev pub nodeFrom : ℤ → ℤ → ℤ → ℤ → Node
-nodeFrom k K l n = nodeOf (record { k = k; K = K; l = natAbs l; n = natAbs n })
-
--- the nodes that a slice holds
-unfoldable pub nodesIn : List ℤ → List Node
-nodesIn [] = []
-nodesIn (k ∷ []) = []
-nodesIn (k ∷ (K ∷ [])) = []
-nodesIn (k ∷ (K ∷ (l ∷ []))) = []
-nodesIn (k ∷ (K ∷ (l ∷ (n ∷ t)))) = nodeFrom k K l n ∷ nodesIn t
 
 abbrev pub flat : Node → List ℤ
 flat x = x .envelope .k ∷ (x .envelope .K ∷ (pos (x .envelope .l) ∷ (pos (x .envelope .n) ∷ [])))
@@ -26,16 +9,3 @@ flat x = x .envelope .k ∷ (x .envelope .K ∷ (pos (x .envelope .l) ∷ (pos (
 unfoldable pub flats : List Node → List ℤ
 flats [] = []
 flats (x ∷ xs) = flat x ++ flats xs
-
-abbrev pub nodeAt : List ℤ → ℕ → Node
-nodeAt t i =
-    nodeFrom (getD t (4 * i) (pos 0)) (getD t (4 * i + 1) (pos 0)) (getD t (4 * i + 2) (pos 0)) (getD t (4 * i + 3) (pos 0))
-
--- every one is taken
-abbrev pub AllTaken : List Node → Type 0
-AllTaken xs = (i : ℕ) (x : Node) → getElem? xs i ≡ some x → Taken (x .envelope)
-
--- a slice that holds whole nodes, each taken
-pub record Holds (t : List ℤ) : Type 0 where
-  pub flat-is : flats (nodesIn t) ≡ t
-  pub taken : AllTaken (nodesIn t)

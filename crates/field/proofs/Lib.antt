@@ -2,4 +2,5 @@ pub mod Read
 pub mod Spelling
 pub mod Fields
 pub mod SignedFields
+pub mod Format
 pub mod Promise

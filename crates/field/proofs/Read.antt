@@ -18,3 +18,10 @@ through (refused n p) go y c h = refused-got h
 pub pick-left : {A : Type 0} (t : Bool) (x : Read A) (n p : ℕ) (y : A) (c : ℕ) → pick t x (refused n p) ≡ got y c → (t ≡ true) × (x ≡ got y c)
 pick-left true x n p y c h = (refl, h)
 pick-left false x n p y c h = refused-got h
+
+-- what holds of a refusal's number and place holds of those of the same refusal
+pub same-refused : {A : Type 0} (P : ℕ → ℕ → Type 0) {n q number place : ℕ} → _≡_ {A = Read A} (refused n q) (refused number place) → P n q → P number place
+same-refused P {n} {q} {number} {place} e h =
+    let a : n ≡ number = cc in
+    let b : q ≡ place = cc in
+    rw (← a, ← b) h

@@ -2,3 +2,4 @@ pub mod Read
 pub mod Spelling
 pub mod Field
 pub mod Promise
+pub mod Format

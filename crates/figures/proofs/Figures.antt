@@ -10,7 +10,9 @@ use Rattle.envelope.specs.Standing.{hasRoom, beyondOf, restOf, standingOf}
 use Rattle.envelope.specs.Made.{declaredOf, limited, negatedOf, joinedOf}
 use Rattle.link.specs.Link.{sizeOf, earlyOf, verdictOf}
 use Rattle.expression.specs.Evaluate.{fieldsKept, declaredWorth}
-use Rattle.expression.specs.Reader.{node, exprAt}
+use Rattle.field.specs.Format.{run}
+use Rattle.expression.specs.Format.{parts, expression}
+use Rattle.expression.specs.Reader.{exprAt}
 use Rattle.expression.specs.Table.{flats}
 use Rattle.sheet.specs.Reader.{rowsAt, sectionAt, bitsAt, wordAt, clockAt, linkAt, readFrom, readSheet}
 use Rattle.sheet.specs.Rooms.{total, openRoom, wholeRoom}
@@ -22,5 +24,5 @@ use Rattle.pattern.specs.Walk.{walkFrom, walkOver}
 use Rattle.figures.specs.Figures.{figures, said}
 
 pub as-said : figures ≡ said
-unfolding euclid gcdOf lowFirst fieldAt fieldIn signed signedAt signedIn ones resultOf normalOf notOf onOf onesIn wordBit offsets wordOf hasRoom beyondOf restOf standingOf declaredOf limited negatedOf joinedOf sizeOf earlyOf verdictOf fieldsKept declaredWorth node exprAt flats rowsAt sectionAt bitsAt wordAt clockAt linkAt readFrom readSheet total openRoom wholeRoom workedOf flatRows nots low high oneMay zeroMay checkAnswer firstAnswer firstBytes nextAnswer nextBytes walkFrom walkOver
+unfolding euclid gcdOf lowFirst fieldAt fieldIn signed signedAt signedIn ones resultOf normalOf notOf onOf onesIn wordBit offsets wordOf hasRoom beyondOf restOf standingOf declaredOf limited negatedOf joinedOf sizeOf earlyOf verdictOf fieldsKept declaredWorth run expression parts exprAt flats rowsAt sectionAt bitsAt wordAt clockAt linkAt readFrom readSheet total openRoom wholeRoom workedOf flatRows nots low high oneMay zeroMay checkAnswer firstAnswer firstBytes nextAnswer nextBytes walkFrom walkOver
 as-said = refl

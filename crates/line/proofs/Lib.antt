@@ -2,4 +2,3 @@ pub mod Puts
 pub mod Digits
 pub mod Signs
 pub mod Promise
-pub mod Outcomes

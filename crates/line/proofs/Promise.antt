@@ -6,9 +6,9 @@ use native.Mathlib.Omega.{arith}
 use lib.IntN.{ℤ, pos, negsuc}
 use lib.ListN.{length, getD, take, drop, length-append, List·getD-append}
 use lib.Seq.{append-snoc, sets, sets-eq, take-at, drop-at, take-append-seam, length-take-le}
-use Rattle.line.specs.Text.{Put, figure, minus, digits, decimal}
+use Rattle.line.specs.Text.{Out, outOf, top, put, Put, figure, minus, digits, decimal}
 use Rattle.line.specs.Promise.{Figures, Figures.none, Figures.one, readOn, valueOf, NumbersPromise, Stands, TextPromise}
-use Rattle.line.proofs.Puts.{puts, put-length}
+use Rattle.line.proofs.Puts.{put-then, put-length, put-at, put-fits}
 use Rattle.line.proofs.Digits.{by-tens, digits-few, digits-more, length-few, length-some}
 
 -- ---- the digits of a number are a numeral
@@ -97,7 +97,7 @@ numbers-promise =
     }
 
 -- ---- a text that is put
-module _ (xs : List ℕ) (a : ℕ) (t : List ℕ) (h : a + length t ≤ length xs) where
+module _ (xs : List ℕ) (a : ℕ) (t : List ℕ) (h : a + length t ≤ length xs) (k : length xs ≤ top) where
   -- what stands before the text has its length
   start : length (take a xs) ≡ a
   start = length-take-le a xs (omega arith)
@@ -108,20 +108,23 @@ module _ (xs : List ℕ) (a : ℕ) (t : List ℕ) (h : a + length t ≤ length x
   stands : (ys : List ℕ) (r : ℕ) → Put xs a t ys r → Stands xs a t ys r
   stands ys r p =
       let rest = drop (a + length t) xs in
+      let bytes : ys ≡ sets xs a t = ap (λ (o : Out). o .bytes) p ∙ put-fits xs a t h k in
+      let past : r ≡ a + length t = put-at xs ys t a r (omega arith) p ∙ omega arith in
       record {
-        before = ap (take a) (p .bytes ∙ parts) ∙ take-at (take a xs) (t ++ rest) a start;
-        text = ap (λ (l : List ℕ). take (length t) (drop a l)) (p .bytes ∙ parts) ∙ ap (take (length t)) (drop-at (take a xs) (t ++ rest) a start) ∙ take-append-seam t rest;
+        before = ap (take a) (bytes ∙ parts) ∙ take-at (take a xs) (t ++ rest) a start;
+        text = ap (λ (l : List ℕ). take (length t) (drop a l)) (bytes ∙ parts) ∙ ap (take (length t)) (drop-at (take a xs) (t ++ rest) a start) ∙ take-append-seam t rest;
         after =
-            ap (λ (k : ℕ). drop k ys) (p .past) ∙ ap (drop (a + length t)) (p .bytes ∙ sets-eq t xs a h)
-            ∙ drop-at (take a xs ++ t) rest (a + length t) (length-append (take a xs) t ∙ ap (λ (k : ℕ). k + length t) start)
-            ∙ ap (λ (k : ℕ). drop k xs) (sym (p .past));
-        same-length = put-length p;
+            ap (λ (n : ℕ). drop n ys) past ∙ ap (drop (a + length t)) (bytes ∙ sets-eq t xs a h)
+            ∙ drop-at (take a xs ++ t) rest (a + length t) (length-append (take a xs) t ∙ ap (λ (n : ℕ). n + length t) start)
+            ∙ ap (λ (n : ℕ). drop n xs) (sym past);
+        same-length = put-length xs ys t a r p;
       }
 
 pub text-promise : TextPromise
 text-promise =
     record {
-      stands = λ xs a t ys r h p. stands xs a t h ys r p;
-      puts = puts;
-      one-answer = λ p q. (p .bytes ∙ sym (q .bytes), p .past ∙ sym (q .past));
+      stands = λ xs a t ys r h k p. stands xs a t h k ys r p;
+      measured = λ xs t ys r h p. put-at xs ys t 0 r (omega arith) p ∙ omega arith;
+      then = λ xs ys zs t u a b c p q. q ∙ ap (λ (o : Out). put o u) p ∙ sym (put-then (outOf xs a) t u);
+      one-answer = λ xs ys zs t a b c p q. let e = p ∙ sym q in (ap (λ (o : Out). o .bytes) e, ap (λ (o : Out). o .at) e);
     }

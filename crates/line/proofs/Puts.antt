@@ -1,42 +1,64 @@
--- Laws of texts that are put one after the other. Assumes nothing.
-use mathlib.Core.Path.{_≡_, refl, sym, ap, _∙_, subst}
+-- Laws of texts that are put one after another. Assumes nothing.
+use mathlib.Core.Path.{_≡_, refl, sym, ap, _∙_}
 use mathlib.Core.List.{List, [], _∷_, _++_}
-use Prim.Native.Nat.{ℕ, suc, _+_, _<_}
-use native.Mathlib.Nat.{add-zero, add-suc, suc-add, add-assoc}
+use Prim.Native.Nat.{ℕ, suc, _+_, _≤_, _<_, min}
 use native.Mathlib.Numerals.{add-one}
 use native.Mathlib.Omega.{arith}
-use lib.ListN.{length, length-append, set, getD, take}
-use lib.Seq.{sets, length-sets, take-suc}
-use Rattle.line.specs.Text.{Put}
+use lib.ListN.{length, length-set, set, getD, drop}
+use lib.Seq.{sets, drop-cons}
+use Rattle.line.specs.Text.{Out, outOf, top, blank, lineFeed, putOne, put, fieldsOf, lineOf, putField, putFields, putLine, Put}
 
-sets-append : (xs : List ℕ) (a : ℕ) (t u : List ℕ) → sets (sets xs a t) (a + length t) u ≡ sets xs a (t ++ u)
-sets-append xs a [] u = ap (λ (k : ℕ). sets xs k u) (add-zero a)
-sets-append xs a (x ∷ t) u =
-    ap (λ (k : ℕ). sets (sets (set xs a x) (suc a) t) k u) (add-suc a (length t) ∙ sym (suc-add a (length t)))
-    ∙ sets-append (set xs a x) (suc a) t u
+pub put-then : (o : Out) (t u : List ℕ) → put o (t ++ u) ≡ put (put o t) u
+unfolding put
+put-then o [] u = refl
+put-then o (b ∷ t) u = put-then (putOne o b) t u
 
--- one text after another is the two as one
-pub puts : {xs ys zs t u : List ℕ} {a b c : ℕ} → Put xs a t ys b → Put ys b u zs c → Put xs a (t ++ u) zs c
-puts {xs} {ys} {t = t} {u = u} {a} p q =
-    record {
-      past = q .past ∙ ap (λ (k : ℕ). k + length u) (p .past) ∙ add-assoc a (length t) (length u) ∙ ap (λ (k : ℕ). a + k) (sym (length-append t u));
-      bytes =
-          q .bytes ∙ ap (λ (k : ℕ). sets ys k u) (p .past) ∙ ap (λ (l : List ℕ). sets l (a + length t) u) (p .bytes)
-          ∙ sets-append xs a t u;
-    }
+put-fields : (o : Out) (ts : List (List ℕ)) → putFields o ts ≡ put o (fieldsOf ts)
+unfolding put
+put-fields o [] = refl
+put-fields o (t ∷ ts) = put-fields (putField o t) ts ∙ sym (put-then (putOne o blank) t (fieldsOf ts))
 
-pub put-none : (xs : List ℕ) (a : ℕ) → Put xs a [] xs a
-put-none xs a = record { past = sym (add-zero a); bytes = refl }
+-- a line that is put field by field is put
+pub put-line : (o : Out) (t : List ℕ) (ts : List (List ℕ)) → putLine o t ts ≡ put o (lineOf t ts)
+unfolding put lineOf
+put-line o t ts =
+    ap (λ (p : Out). putOne p lineFeed) (put-fields (put o t) ts) ∙ sym (put-then (put o t) (fieldsOf ts) (lineFeed ∷ []))
+    ∙ sym (put-then o t (fieldsOf ts ++ (lineFeed ∷ [])))
 
--- the same text under another name
-pub put-as : {xs ys t u : List ℕ} {a r : ℕ} → t ≡ u → Put xs a t ys r → Put xs a u ys r
-put-as {xs} {ys} {t} {u} {a} {r} e p = subst (λ (t : List ℕ). Put xs a t ys r) e p
+-- one line more of a text
+pub put-more : (o p : Out) (t : List ℕ) (ts : List (List ℕ)) (left rest : List ℕ) → left ≡ lineOf t ts ++ rest → p ≡ putLine o t ts → put p rest ≡ put o left
+put-more o p t ts left rest e h = rw (e, put-then, ← put-line, h)
 
-pub put-length : {xs ys t : List ℕ} {a b : ℕ} → Put xs a t ys b → length ys ≡ length xs
-put-length {xs} {t = t} {a} p = ap length (p .bytes) ∙ length-sets xs a t
+put-kept : (o : Out) (t : List ℕ) → length (put o t .bytes) ≡ length (o .bytes)
+unfolding put putOne
+put-kept o [] = refl
+put-kept o (b ∷ t) = put-kept (putOne o b) t ∙ length-set (o .bytes) (o .at) b
+
+-- what is left, put from here, gives what all gives: so the buffer kept its length
+pub going-length : (o p : Out) (t u : List ℕ) → put o t ≡ put p u → length (o .bytes) ≡ length (p .bytes)
+going-length o p t u e = sym (put-kept o t) ∙ ap (λ (q : Out). length (q .bytes)) e ∙ put-kept p u
+
+pub put-length : (xs ys t : List ℕ) (a r : ℕ) → Put xs a t ys r → length ys ≡ length xs
+put-length xs ys t a r p = ap (λ (o : Out). length (o .bytes)) p ∙ put-kept (outOf xs a) t
 
 -- one byte more of a text
-pub put-next : {xs ys : List ℕ} (t : List ℕ) (a i : ℕ) → i < length t → Put xs a (take i t) ys (a + i) → Put xs a (take (i + 1) t) (set ys (a + i) (getD t i 0)) (a + (i + 1))
-put-next t a i h p =
-    put-as (sym (ap (λ (k : ℕ). take k t) (add-one i) ∙ take-suc t i 0 h))
-    (puts p (record { past = sym (add-assoc a i 1); bytes = refl }))
+pub put-next : (o p : Out) (t : List ℕ) (i : ℕ) → i < length t → p ≡ putOne o (getD t i 0) → put p (drop (i + 1) t) ≡ put o (drop i t)
+unfolding put
+put-next o p t i h e = rw (add-one i, drop-cons t i 0 h, e)
+
+-- ---- where the text ends, and what the buffer holds where it fits
+pub put-past : (o : Out) (t : List ℕ) → o .at ≤ top → put o t .at ≡ min (o .at + length t) top
+unfolding put putOne
+put-past o [] h = omega arith
+put-past o (b ∷ t) h = put-past (putOne o b) t (omega arith) ∙ omega arith
+
+pub put-at : (xs ys t : List ℕ) (a r : ℕ) → a ≤ top → Put xs a t ys r → r ≡ min (a + length t) top
+put-at xs ys t a r h p = ap (λ (o : Out). o .at) p ∙ put-past (outOf xs a) t h
+
+pub put-fits : (xs : List ℕ) (a : ℕ) (t : List ℕ) → a + length t ≤ length xs → length xs ≤ top → put (outOf xs a) t .bytes ≡ sets xs a t
+unfolding put putOne
+put-fits xs a [] h k = refl
+put-fits xs a (b ∷ t) h k =
+    let next : min (a + 1) top ≡ suc a = omega arith in
+    let kept = length-set xs a b in
+    ap (λ (n : ℕ). put (outOf (set xs a b) n) t .bytes) next ∙ put-fits (set xs a b) (suc a) t (omega arith) (omega arith)

@@ -4,7 +4,7 @@ use mathlib.Core.List.{List, [], _∷_, _++_}
 use Prim.Native.Nat.{ℕ, _+_, _-_, _*_, _≤_, _<_}
 use lib.IntN.{ℤ}
 use lib.ListN.{length, getD, take, drop}
-use Rattle.line.specs.Text.{Put, figure, digits, decimal}
+use Rattle.line.specs.Text.{Put, top, figure, digits, decimal}
 
 -- every byte is a figure, "0" to "9"
 pub data Figures : List ℕ → Type 0 where
@@ -44,8 +44,10 @@ pub record Stands (xs : List ℕ) (a : ℕ) (t : List ℕ) (ys : List ℕ) (r : 
 
 pub record TextPromise : Type 0 where
   -- a text that is put where it fits stands there
-  pub stands : (xs : List ℕ) (a : ℕ) (t ys : List ℕ) (r : ℕ) → a + length t ≤ length xs → Put xs a t ys r → Stands xs a t ys r
+  pub stands : (xs : List ℕ) (a : ℕ) (t ys : List ℕ) (r : ℕ) → a + length t ≤ length xs → length xs ≤ top → Put xs a t ys r → Stands xs a t ys r
+  -- a text that is put into any buffer, an empty one too, is measured
+  pub measured : (xs t ys : List ℕ) (r : ℕ) → length t ≤ top → Put xs 0 t ys r → r ≡ length t
   -- one text after another is the two as one
-  pub puts : {xs ys zs t u : List ℕ} {a b c : ℕ} → Put xs a t ys b → Put ys b u zs c → Put xs a (t ++ u) zs c
+  pub then : (xs ys zs t u : List ℕ) (a b c : ℕ) → Put xs a t ys b → Put ys b u zs c → Put xs a (t ++ u) zs c
   -- a contract that says which text is put decides the buffer and the place
-  pub one-answer : {xs ys zs t : List ℕ} {a b c : ℕ} → Put xs a t ys b → Put xs a t zs c → (ys ≡ zs) × (b ≡ c)
+  pub one-answer : (xs ys zs t : List ℕ) (a b c : ℕ) → Put xs a t ys b → Put xs a t zs c → (ys ≡ zs) × (b ≡ c)

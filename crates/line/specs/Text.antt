@@ -1,15 +1,34 @@
 -- Text as a list of bytes: numbers in decimal, fields after a blank, and what it is to put a text into a buffer.
 use mathlib.Core.Path.{_≡_}
 use mathlib.Core.List.{List, [], _∷_, _++_}
-use Prim.Native.Nat.{ℕ, zero, suc, _+_, _/_, _%_}
+use Prim.Native.Nat.{ℕ, zero, suc, _+_, _/_, _%_, min}
 use lib.IntN.{ℤ, pos, negsuc}
-use lib.ListN.{length}
-use lib.Seq.{sets}
+use lib.ListN.{set}
 
--- the text t was put into xs at a: ys has its bytes from a on and every other byte of xs, and r is the place past it
-pub record Put (xs : List ℕ) (a : ℕ) (t : List ℕ) (ys : List ℕ) (r : ℕ) : Type 0 where
-  pub past : r ≡ a + length t
-  pub bytes : ys ≡ sets xs a t
+-- a buffer, and the place where its next byte goes
+pub record Out : Type 0 where
+  pub bytes : List ℕ
+  pub at : ℕ
+
+abbrev pub outOf : List ℕ → ℕ → Out
+outOf xs a = record { bytes = xs; at = a }
+
+-- the last place that can be counted: no buffer reaches so far
+abbrev pub top : ℕ
+top = 18446744073709551615
+
+-- one byte more: past the buffer's end nothing is written, and the places are counted on
+unfoldable pub putOne : Out → ℕ → Out
+putOne o b = outOf (set (o .bytes) (o .at) b) (min (o .at + 1) top)
+
+-- a text, byte by byte
+unfoldable pub put : Out → List ℕ → Out
+put o [] = o
+put o (b ∷ t) = put (putOne o b) t
+
+-- the text t was put into xs at a, which gave ys and the place r past it
+abbrev pub Put : List ℕ → ℕ → List ℕ → List ℕ → ℕ → Type 0
+Put xs a t ys r = outOf ys r ≡ put (outOf xs a) t
 
 -- "0" is 48, and the other figures follow it
 abbrev pub figure : ℕ → ℕ
@@ -43,14 +62,29 @@ unfoldable pub decimal : ℤ → List ℕ
 decimal (pos n) = digits n
 decimal (negsuc n) = minus ∷ digits (suc n)
 
--- a field that is not the line's first: fields are separated by one blank
-abbrev pub field : List ℕ → List ℕ
-field t = blank ∷ t
+-- a line: its first field, the others, each after a blank, and a line feed
+abbrev pub fieldsOf : List (List ℕ) → List ℕ
+fieldsOf [] = []
+fieldsOf (t ∷ ts) = (blank ∷ t) ++ fieldsOf ts
+
+unfoldable pub lineOf : List ℕ → List (List ℕ) → List ℕ
+lineOf t ts = t ++ (fieldsOf ts ++ (lineFeed ∷ []))
+
+-- the same, put field by field
+abbrev pub putField : Out → List ℕ → Out
+putField o t = put (putOne o blank) t
+
+abbrev pub putFields : Out → List (List ℕ) → Out
+putFields o [] = o
+putFields o (t ∷ ts) = putFields (putField o t) ts
+
+abbrev pub putLine : Out → List ℕ → List (List ℕ) → Out
+putLine o t ts = putOne (putFields (put o t) ts) lineFeed
 
 -- at
 abbrev pub atWord : List ℕ
 atWord = 97 ∷ 116 ∷ []
 
 -- a word, a number, "at" and a place: "refused NUMBER at PLACE", "closed CLOCK at PLACE"
-unfoldable pub outcomeLine : List ℕ → ℕ → ℕ → List ℕ
-outcomeLine word number place = word ++ (field (digits number) ++ (field atWord ++ (field (digits place) ++ (lineFeed ∷ []))))
+abbrev pub outcomeFields : ℕ → ℕ → List (List ℕ)
+outcomeFields number place = digits number ∷ atWord ∷ digits place ∷ []

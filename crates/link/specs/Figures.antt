@@ -4,17 +4,17 @@ use Prim.Native.Nat.{ℕ}
 use lib.IntN.{ℤ, pos, negℤ}
 use Rattle.envelope.specs.declared.Envelope.{Envelope}
 use Rattle.envelope.specs.declared.Made.{Made}
-use Rattle.envelope.specs.declared.Made.the-variants.{Whole, Empty, FullRate}
+use Rattle.envelope.specs.declared.Made.the-variants.{Whole, Empty, FullRate, Outgrown}
 use Rattle.envelope.specs.Envelope.{notOf, onOf}
 use Rattle.envelope.specs.Word.{wordOf}
-use Rattle.envelope.specs.Made.{nodeOf, declaredOf, negatedOf}
+use Rattle.envelope.specs.Made.{numberOf, declaredOf, negatedOf}
 use Rattle.link.specs.declared.Verdict.{Verdict}
 use Rattle.link.specs.declared.Verdict.the-variants.{Accepted, Early}
 use Rattle.link.specs.Link.{verdictOf}
 
 pub data Figure : Type 0 where
   envelope : Envelope → Figure
-  made : Made → Figure
+  refused : ℕ → Figure
   verdict : Verdict → Figure
 
 abbrev pub numbers : ℤ → ℤ → ℕ → ℕ → Envelope
@@ -22,6 +22,13 @@ numbers k K l n = record { k = k; K = K; l = l; n = n }
 
 abbrev pub minus : ℕ → ℤ
 minus n = negℤ (pos n)
+
+-- what a rule makes: "taken as" an envelope, or "refused" with a number
+abbrev pub made : Made → Figure
+made (Whole x) = envelope (x .envelope)
+made Empty = refused (numberOf Empty)
+made FullRate = refused (numberOf FullRate)
+made Outgrown = refused (numberOf Outgrown)
 
 -- (11010)
 abbrev pub w11010 : Envelope
@@ -57,10 +64,10 @@ said =
     ∷ envelope (numbers (minus 3) (pos 0) 5 2)
     ∷ envelope (numbers (minus 6) (pos 0) 5 2)
     ∷ envelope (numbers (pos 2) (pos 9) 5 3)
-    ∷ made Empty
-    ∷ made (Whole (nodeOf (numbers (pos 0) (pos 0) 1 1)))
-    ∷ made (Whole (nodeOf (numbers (pos 1) (pos 4) 5 3)))
-    ∷ made FullRate
+    ∷ refused 7
+    ∷ envelope (numbers (pos 0) (pos 0) 1 1)
+    ∷ envelope (numbers (pos 1) (pos 4) 5 3)
+    ∷ refused 8
     ∷ verdict (Accepted 0)
     ∷ verdict Early
     ∷ []

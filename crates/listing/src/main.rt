@@ -1,18 +1,27 @@
 // Lists a sheet: standard input to standard output.
+ghost use mathlib.Core.Path.{_≡_};
+ghost use lib.ListN.{length};
 use report::Listed;
 
-// Prints the listing of a sheet. There is room for any: 128 clock lines, 256 link lines and the rooms.
+// Zeros, as many as the longest listing has bytes.
+fn text_space() -> [u8; report::TEXT_MOST]
+    ensures { λ r. ⌜ 18463 ≡ length r ⌝ }
+{
+    [0; report::TEXT_MOST]
+}
+
+// Prints the listing of a sheet, or its refusal.
 fn print_listing(sheet: &[u8]) {
-    let mut text = io::large_buffer();
+    let mut text = text_space();
     match report::list(sheet, &mut text) {
         Listed::Text(n) => {
             terminal::print(b"listing", &text[..n]);
         }
-        Listed::Short => terminal::complain(
-            b"listing",
-            b"the listing is too long",
-            b"at most 65536 bytes",
-        ),
+        Listed::Refused(number, place) => {
+            terminal::print_refused(b"listing", number, place);
+        }
+        // There is room for any.
+        Listed::Short => {}
     }
 }
 

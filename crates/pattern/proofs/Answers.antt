@@ -24,8 +24,8 @@ use Rattle.pattern.specs.declared.Answer.the-variants.{Inside, Done, Las
 use Rattle.pattern.specs.declared.Judged.{Judged}
 use Rattle.pattern.specs.declared.Judged.the-variants.{Sound, Unsound}
 use Rattle.pattern.specs.Pattern.{longest, plain}
-use Rattle.pattern.specs.Answer.{given, isFine, checkAnswer, firstAnswer, firstBytes, nextOf, nextAnswer, nextBytes}
-use Rattle.pattern.specs.Scan.{Near, onward, filled, reached, markOf, scanned, judged}
+use Rattle.pattern.specs.Answer.{given, isFine, checkAnswer, firstAnswer, firstBytes, nextOf, nextAnswer, nextBytes, Checks, Firsts, Nexts}
+use Rattle.pattern.specs.Inner.Scan.{Near, onward, filled, reached, markOf, scanned, judged}
 use Rattle.pattern.proofs.Offsets.{offset-start, filled-is, near-on, near-more, near-held, near-reached}
 use Rattle.pattern.proofs.Replies.{fromMark, next-mark, Sane, sane, answerOf, judged-check, Passes, sound-is}
 
@@ -37,14 +37,14 @@ module _ (k K : ℤ) (l n : ℕ) (f : SFits w64 k) (g : SFits w64 K) where
   held-given : heldOf k K l n ≡ given k K l n
   held-given = λ i. given (toZ-ofZ f i) (toZ-ofZ g i) l n
 
-  -- an answer
-  pub answer-given : (answer : Envelope → List ℕ → Answer) {p : List ℕ} {r : Answer} → r ≡ answer (heldOf k K l n) p → r ≡ answer (given k K l n) p
-  answer-given answer {p} h = h ∙ ap (λ (e : Envelope). answer e p) held-given
+  pub checks-given : {p : List ℕ} {r : Answer} → Checks (heldOf k K l n) p r → Checks (given k K l n) p r
+  checks-given {p} {r} = subst (λ (e : Envelope). Checks e p r) held-given
 
-  -- an answer and what is written
-  pub both-given : (answer : Envelope → List ℕ → Answer) (bytes : Envelope → List ℕ → List ℕ) {p : List ℕ} {r : Answer} {w : List ℕ} → (r ≡ answer (heldOf k K l n) p) × (w ≡ bytes (heldOf k K l n) p) → (r ≡ answer (given k K l n) p) × (w ≡ bytes (given k K l n) p)
-  both-given answer bytes {p} h =
-      (answer-given answer (h .0), h .1 ∙ ap (λ (e : Envelope). bytes e p) held-given)
+  pub firsts-given : {p q : List ℕ} {r : Answer} → Firsts (heldOf k K l n) p r q → Firsts (given k K l n) p r q
+  firsts-given {p} {q} {r} = subst (λ (e : Envelope). Firsts e p r q) held-given
+
+  pub nexts-given : {p q : List ℕ} {r : Answer} → Nexts (heldOf k K l n) p r q → Nexts (given k K l n) p r q
+  nexts-given {p} {q} {r} = subst (λ (e : Envelope). Nexts e p r q) held-given
 
 module _ (e : Envelope) (p : List ℕ) where
   -- ---- judge
@@ -73,26 +73,29 @@ module _ (e : Envelope) (p : List ℕ) where
   check-is j q = ap (answerOf e) q ∙ judged-check e p
 
   -- ---- first
-  pub first-none : isFine (standingOf e) ≡ false → (Refused noEnvelope 0 ≡ firstAnswer e p) × (p ≡ firstBytes e p)
+  pub first-none : isFine (standingOf e) ≡ false → Firsts e p (Refused noEnvelope 0) p
   unfolding firstAnswer firstBytes
-  first-none h = (rw h, rw h)
+  first-none h = record { answer-is = rw h; bytes-are = rw h }
 
-  pub first-long : isFine (standingOf e) ≡ true → longest < length p → (Refused longPattern 0 ≡ firstAnswer e p) × (p ≡ firstBytes e p)
+  pub first-long : isFine (standingOf e) ≡ true → longest < length p → Firsts e p (Refused longPattern 0) p
   unfolding firstAnswer firstBytes
-  first-long f h = (rw (f, lt-ltb longest (length p) h), rw (f, lt-ltb longest (length p) h))
+  first-long f h = record { answer-is = rw (f, lt-ltb longest (length p) h); bytes-are = rw (f, lt-ltb longest (length p) h) }
 
-  pub first-done : isFine (standingOf e) ≡ true → length p ≤ longest → (q : List ℕ) → q ≡ filled e (pos 0) (length p - 0) → (Done ≡ firstAnswer e p) × (q ≡ firstBytes e p)
+  pub first-done : isFine (standingOf e) ≡ true → length p ≤ longest → (q : List ℕ) → q ≡ filled e (pos 0) (length p - 0) → Firsts e p Done q
   unfolding firstAnswer firstBytes
   first-done f h q w =
       let all : filled e (pos 0) (length p) ≡ filled e _ (length p) = ap (λ (d : ℤ). filled e d (length p)) (sym (offset-start e)) in
-      (rw (f, le-ltb longest (length p) h), rw (f, le-ltb longest (length p) h) ((rw sub-zero at w) ∙ all ∙ filled-is e (length p) 0 0))
+      record {
+        answer-is = rw (f, le-ltb longest (length p) h);
+        bytes-are = rw (f, le-ltb longest (length p) h) ((rw sub-zero at w) ∙ all ∙ filled-is e (length p) 0 0);
+      }
 
   -- ---- next
-  pub next-bad : (number place : ℕ) → Unsound number place ≡ judged e p → (Refused number place ≡ nextAnswer e p) × (p ≡ nextBytes e p)
+  pub next-bad : (number place : ℕ) → Unsound number place ≡ judged e p → Nexts e p (Refused number place) p
   unfolding nextAnswer nextBytes
   next-bad number place q =
       let w : checkAnswer e p ≡ Refused number place = sym (check-is (Unsound number place) q) in
-      (rw w, rw w)
+      record { answer-is = rw w; bytes-are = rw w }
 
   module _ (end : ℤ) (q : Sound end ≡ judged e p) where
     passing : Passes e p end
@@ -120,11 +123,11 @@ module _ (e : Envelope) (p : List ℕ) where
       next-fine : nextOf e p ≡ fromMark e p (m .place) (m .offset)
       next-fine = sym (next-mark e p) ∙ ap (λ (r : Mark). fromMark e p (r .place) (r .offset)) (sym is-mark)
 
-      pub next-last : m .place ≡ 0 → (Last ≡ nextAnswer e p) × (p ≡ nextBytes e p)
+      pub next-last : m .place ≡ 0 → Nexts e p Last p
       unfolding nextAnswer nextBytes
       next-last h =
           let n : nextOf e p ≡ none = next-fine ∙ ap (λ (t : ℕ). fromMark e p t (m .offset)) h in
-          (rw (is-inside, n), rw (is-inside, n))
+          record { answer-is = rw (is-inside, n); bytes-are = rw (is-inside, n) }
 
       -- ---- where there is a mark, its 0 becomes a 1
       module _ (some-mark : m .place ≡ 0 → ⊥) where
@@ -160,7 +163,7 @@ module _ (e : Envelope) (p : List ℕ) where
           pub near-after : Near (m .place) (toZ w64 (ofZ w64 r))
           near-after = rw raised-held near-raised
 
-          pub next-done : (w : List ℕ) → w ≡ take (m .place) (set p (m .place - 1) 1) ++ filled e (toZ w64 (ofZ w64 r)) (length (set p (m .place - 1) 1) - m .place) → (Done ≡ nextAnswer e p) × (w ≡ nextBytes e p)
+          pub next-done : (w : List ℕ) → w ≡ take (m .place) (set p (m .place - 1) 1) ++ filled e (toZ w64 (ofZ w64 r)) (length (set p (m .place - 1) 1) - m .place) → Nexts e p Done w
           unfolding nextAnswer nextBytes
           next-done w h =
               let t : ℕ = m .place - 1 in
@@ -170,4 +173,4 @@ module _ (e : Envelope) (p : List ℕ) where
               let n : nextOf e p ≡ some (take t p ++ (1 ∷ tail)) = next-fine ∙ ap (λ (k : ℕ). fromMark e p k (m .offset)) mark-is in
               let h′ : w ≡ take (suc t) (set p t 1) ++ filled e d (length (set p t 1) - suc t) = h ∙ ap (λ (x : ℤ). take (m .place) (set p t 1) ++ filled e x (length (set p t 1) - m .place)) raised-held ∙ ap (λ (k : ℕ). take k (set p t 1) ++ filled e d (length (set p t 1) - k)) mark-is in
               let moved : w ≡ take t p ++ (1 ∷ tail) = h′ ∙ rw (length-set p t 1, take-suc-set p t 1 in-p) (append-snoc (take t p) 1 tail) in
-              (rw (is-inside, n), rw (is-inside, n) moved)
+              record { answer-is = rw (is-inside, n); bytes-are = rw (is-inside, n) moved }

@@ -1,4 +1,4 @@
--- What "check" answers: inside exactly for the beginnings of endless streams, and what each refusal's number and place say.
+-- What "check" answers: inside exactly for the beginnings of endless streams.
 -- Assumes nothing.
 use Prim.Native.Nat.{ℕ, zero, suc, _≤_, _<_}
 use native.Mathlib.Nat.{le-refl, not-suc-le-zero, le-of-suc-le-suc}
@@ -19,11 +19,9 @@ use Rattle.pattern.specs.declared.Answer.the-variants.{Refused}
 use Rattle.pattern.specs.Step.{oneMay, zeroMay}
 use Rattle.pattern.specs.Pattern.{longest, after, may, Inside, passed, plain}
 use Rattle.pattern.specs.Beginning.{Begins}
-use Rattle.pattern.specs.Answer.{numberOf, placeOf, isFine, stepsOf, checkAnswer}
-use Rattle.pattern.specs.Walk.{Refusals}
+use Rattle.pattern.specs.Answer.{numberOf, isFine, stepsOf, checkAnswer}
 use Rattle.pattern.proofs.Walking.{is-true, to-T}
 use Rattle.pattern.proofs.Binary.{Bits}
-use Rattle.pattern.proofs.Loops.{plain-before}
 use Rattle.pattern.proofs.Replies.{is-taken, taken-is}
 use Rattle.pattern.proofs.Beginnings.{begins-in, in-begins}
 
@@ -48,7 +46,7 @@ module _ (z o : ℕ → ℕ → Bool) where
   inside-bits (suc (suc b) ∷ p) i j h = absurd (h .0)
 
   -- the steps before the first forbidden one are inside, and with it they are not
-  passed-take : (p : List ℕ) (i j : ℕ) → Inside z o i j (take (passed z o i j p) p)
+  pub passed-take : (p : List ℕ) (i j : ℕ) → Inside z o i j (take (passed z o i j p) p)
   passed-take [] i j = tt
   passed-take (b ∷ p) i j = go (may z o i j b) refl (passed-take p (suc i) (after j b))
     where
@@ -56,7 +54,7 @@ module _ (z o : ℕ → ℕ → Bool) where
       go true q ih = rw q (to-T (may z o i j b) q, ih)
       go false q ih = rw q tt
 
-  passed-stops : (p : List ℕ) (i j : ℕ) → passed z o i j p < length p → Inside z o i j (take (suc (passed z o i j p)) p) → ⊥
+  pub passed-stops : (p : List ℕ) (i j : ℕ) → passed z o i j p < length p → Inside z o i j (take (suc (passed z o i j p)) p) → ⊥
   passed-stops [] i j h v = not-suc-le-zero h
   passed-stops (b ∷ p) i j h v = go (may z o i j b) refl (passed-stops p (suc i) (after j b))
     where
@@ -65,7 +63,7 @@ module _ (z o : ℕ → ℕ → Bool) where
       go false q ih = absurd (rw q at (v .0))
 
 -- the first byte that is neither 0 nor 1
-plain-stops : (p : List ℕ) → plain p < length p → 1 < getD p (plain p) 0
+pub plain-stops : (p : List ℕ) → plain p < length p → 1 < getD p (plain p) 0
 plain-stops [] h = absurd (not-suc-le-zero h)
 plain-stops (b ∷ p) h = go (leb b 1) refl (plain-stops p)
   where
@@ -105,7 +103,7 @@ module _ (e : Envelope) where
     no-envelope : (Taken e → ⊥) → Checked p (Refused noEnvelope 0)
     too-long : Taken e → longest < length p → Checked p (Refused longPattern 0)
     no-bit : Taken e → length p ≤ longest → plain p < length p → Checked p (Refused notABit (plain p))
-    forbidden : Taken e → length p ≤ longest → stepsOf e p < length p → Checked p (Refused outside (stepsOf e p))
+    forbidden : Taken e → length p ≤ longest → length p ≤ plain p → stepsOf e p < length p → Checked p (Refused outside (stepsOf e p))
 
   pub checked : (p : List ℕ) → Checked p (checkAnswer e p)
   unfolding checkAnswer
@@ -115,61 +113,9 @@ module _ (e : Envelope) where
       go false b c d ea eb ec ed = no-envelope (λ t. false≢true (sym ea ∙ taken-is e t))
       go true true c d ea eb ec ed = too-long (is-taken e ea) (ltb-true longest (length p) eb)
       go true false true d ea eb ec ed = no-bit (is-taken e ea) (ltb-false longest (length p) eb) (ltb-true (plain p) (length p) ec)
-      go true false false true ea eb ec ed = forbidden (is-taken e ea) (ltb-false longest (length p) eb) (ltb-true (stepsOf e p) (length p) ed)
+      go true false false true ea eb ec ed = forbidden (is-taken e ea) (ltb-false longest (length p) eb) (ltb-false (plain p) (length p) ec) (ltb-true (stepsOf e p) (length p) ed)
       go true false false false ea eb ec ed =
           is-inside (record { taken = is-taken e ea; short = ltb-false longest (length p) eb; inside = passed-inside z o p 0 0 (ltb-false (stepsOf e p) (length p) ed) })
-
-  pub refusals : (p : List ℕ) → Refusals e p
-  refusals p =
-      record {
-        no-envelope = (twelve (checkAnswer e p) (checked p), λ f. not-taken f (checkAnswer e p) (checked p));
-        long-pattern = (thirteen (checkAnswer e p) (checked p), λ h. long (h .0) (h .1) (checkAnswer e p) (checked p));
-        not-a-bit = fourteen (checkAnswer e p) (checked p);
-        is-outside = fifteen (checkAnswer e p) (checked p);
-      }
-    where
-      twelve : (a : Answer) → Checked p a → numberOf a ≡ noEnvelope → Taken e → ⊥
-      twelve _ (is-inside v) h t = omega arith
-      twelve _ (no-envelope f) h t = f t
-      twelve _ (too-long t k) h u = omega arith
-      twelve _ (no-bit t k l) h u = omega arith
-      twelve _ (forbidden t k l) h u = omega arith
-
-      not-taken : (Taken e → ⊥) → (a : Answer) → Checked p a → numberOf a ≡ noEnvelope
-      not-taken f _ (is-inside v) = absurd (f (v .taken))
-      not-taken f _ (no-envelope g) = refl
-      not-taken f _ (too-long t k) = absurd (f t)
-      not-taken f _ (no-bit t k l) = absurd (f t)
-      not-taken f _ (forbidden t k l) = absurd (f t)
-
-      thirteen : (a : Answer) → Checked p a → numberOf a ≡ longPattern → Taken e × (longest < length p)
-      thirteen _ (is-inside v) h = absurd (omega arith)
-      thirteen _ (no-envelope f) h = absurd (omega arith)
-      thirteen _ (too-long t k) h = (t, k)
-      thirteen _ (no-bit t k l) h = absurd (omega arith)
-      thirteen _ (forbidden t k l) h = absurd (omega arith)
-
-      long : Taken e → longest < length p → (a : Answer) → Checked p a → numberOf a ≡ longPattern
-      long t h _ (is-inside v) = absurd (let k = v .short in omega arith)
-      long t h _ (no-envelope f) = absurd (f t)
-      long t h _ (too-long u k) = refl
-      long t h _ (no-bit u k l) = absurd (omega arith)
-      long t h _ (forbidden u k l) = absurd (omega arith)
-
-      fourteen : (a : Answer) → Checked p a → numberOf a ≡ notABit → (1 < getD p (placeOf a) 0) × ((t : ℕ) → t < placeOf a → getD p t 0 ≤ 1)
-      fourteen _ (is-inside v) h = absurd (omega arith)
-      fourteen _ (no-envelope f) h = absurd (omega arith)
-      fourteen _ (too-long t k) h = absurd (omega arith)
-      fourteen _ (no-bit t k l) h = (plain-stops p l, plain-before p)
-      fourteen _ (forbidden t k l) h = absurd (omega arith)
-
-      fifteen : (a : Answer) → Checked p a → numberOf a ≡ outside → Begins e (take (placeOf a) p) × (Begins e (take (suc (placeOf a)) p) → ⊥)
-      fifteen _ (is-inside v) h = absurd (omega arith)
-      fifteen _ (no-envelope f) h = absurd (omega arith)
-      fifteen _ (too-long t k) h = absurd (omega arith)
-      fifteen _ (no-bit t k l) h = absurd (omega arith)
-      fifteen _ (forbidden t k l) h =
-          (in-begins e t (take (stepsOf e p) p) (passed-take z o p 0 0), λ b. passed-stops z o p 0 0 l (begins-in e (take (suc (stepsOf e p)) p) b))
 
   pub check-inside : (p : List ℕ) → checkAnswer e p ≡ Answer.Inside → Passing p
   check-inside p h = go (checkAnswer e p) (checked p) h
@@ -179,7 +125,7 @@ module _ (e : Envelope) where
       go _ (no-envelope f) q = absurd (let w = ap numberOf q in omega arith)
       go _ (too-long t k) q = absurd (let w = ap numberOf q in omega arith)
       go _ (no-bit t k l) q = absurd (let w = ap numberOf q in omega arith)
-      go _ (forbidden t k l) q = absurd (let w = ap numberOf q in omega arith)
+      go _ (forbidden t k b l) q = absurd (let w = ap numberOf q in omega arith)
 
   pub inside-is : Taken e → (p : List ℕ) → (checkAnswer e p ≡ Answer.Inside) ↔ ((length p ≤ longest) × Begins e p)
   inside-is t p = (

@@ -11,5 +11,6 @@ pub mod Replies
 pub mod Answers
 pub mod Beginnings
 pub mod Checks
+pub mod Table
 pub mod Successors
 pub mod Promises

@@ -20,7 +20,7 @@ use Rattle.pattern.specs.declared.Mark.{Mark}
 use Rattle.pattern.specs.declared.Judged.the-variants.{Unsound}
 use Rattle.envelope.specs.Envelope.{Taken}
 use Rattle.pattern.specs.Pattern.{longest, plain}
-use Rattle.pattern.specs.Scan.{Near, oneAt, zeroAt, mayAt, onward, leastAt, filled, reached, scanned, leadingOf, marked, unmarked, lastMark, markOf, largestFrom}
+use Rattle.pattern.specs.Inner.Scan.{Near, oneAt, zeroAt, mayAt, onward, leastAt, filled, reached, scanned, leadingOf, marked, unmarked, lastMark, markOf, largestFrom}
 use Rattle.pattern.proofs.Offsets.{near-on, near-held, on-injective}
 
 -- ---- the first byte that is no bit

@@ -19,7 +19,7 @@ use mir.Val.{SFits, toZ, ofZ}
 use mir.Facts.{toZ-ofZ}
 use Rattle.pattern.specs.Step.{low, high, oneMay, zeroMay}
 use Rattle.pattern.specs.Pattern.{longest, after, may, least, fill}
-use Rattle.pattern.specs.Scan.{Near, oneAt, zeroAt, mayAt, stepOf, onward, filled, reached, floorOf}
+use Rattle.pattern.specs.Inner.Scan.{Near, oneAt, zeroAt, mayAt, stepOf, onward, filled, reached, floorOf}
 use Rattle.pattern.proofs.Edges.{leZ-false}
 
 -- two tests of whole numbers that say the same

@@ -19,7 +19,8 @@ use Rattle.pattern.proofs.Walking.{Walked}
 use Rattle.pattern.proofs.Binary.{less-number, rises-at, at-place, place-in}
 use Rattle.pattern.proofs.Replies.{taken-is}
 use Rattle.pattern.proofs.Beginnings.{begins-in, in-begins, walk-in}
-use Rattle.pattern.proofs.Checks.{inside-bits, Passing, inside-is, refusals}
+use Rattle.pattern.proofs.Checks.{inside-bits, Passing, inside-is}
+use Rattle.pattern.proofs.Table.{refusals}
 use Rattle.pattern.proofs.Successors.{next-fine, done-is, last-is}
 
 module _ (e : Envelope) where
@@ -32,10 +33,10 @@ module _ (e : Envelope) where
   steps-of : (p : List ℕ) (ps : List (List ℕ)) → ((q : List ℕ) → List·Memᴰ q (p ∷ ps) → Passing e q) → Follows (nextOf e) p ps → Steps e p ps
   steps-of p [] ok h =
       let f = next-fine e p (ok p (List·Memᴰ·head refl)) in
-      (f .0 ∙ rw h, f .1 ∙ rw h)
+      λ a w n. (n .answer-is ∙ f .0 ∙ rw h, n .bytes-are ∙ f .1 ∙ rw h)
   steps-of p (q ∷ qs) ok h =
       let f = next-fine e p (ok p (List·Memᴰ·head refl)) in
-      (f .0 ∙ rw (h .0), f .1 ∙ rw (h .0), steps-of q qs (λ r m. ok r (List·Memᴰ·tail m)) (h .1))
+      (λ a w n. (n .answer-is ∙ f .0 ∙ rw (h .0), n .bytes-are ∙ f .1 ∙ rw (h .0)), steps-of q qs (λ r m. ok r (List·Memᴰ·tail m)) (h .1))
 
   module _ (t : Taken e) (m : ℕ) (hm : m ≤ longest) where
     walk : Walked z o 0 0 m (fill z o 0 0 m)
@@ -69,7 +70,10 @@ module _ (e : Envelope) where
         record {
           met = met;
           walking = (
-            λ d h. (rw (taken-is e t, le-ltb longest (length d) (rw h hm)), rw (taken-is e t, le-ltb longest (length d) (rw h hm), h)),
+            λ d h a w f. (
+              f .answer-is ∙ rw (taken-is e t, le-ltb longest (length d) (rw h hm)),
+              f .bytes-are ∙ rw (taken-is e t, le-ltb longest (length d) (rw h hm), h),
+            ),
             steps-of (fill z o 0 0 m) (walk .rest) (λ q h. record { taken = t; short = rw (walk .only q h .0) hm; inside = walk .only q h .1 }) (walk .follows),
           );
           each = λ p h b. at-place p met (walk .every p h (begins-in e p b));

@@ -28,7 +28,7 @@ use Rattle.pattern.specs.declared.Judged.the-variants.{Sound, Unsound}
 use Rattle.pattern.specs.Step.{oneMay, zeroMay}
 use Rattle.pattern.specs.Pattern.{longest, after, may, passed, next, raised, plain}
 use Rattle.pattern.specs.Answer.{isFine, stepsOf, nextOf, checkAnswer}
-use Rattle.pattern.specs.Scan.{Near, oneAt, onward, filled, reached, marked, unmarked, lastMark, markOf, scanned, judged}
+use Rattle.pattern.specs.Inner.Scan.{Near, oneAt, onward, filled, reached, marked, unmarked, lastMark, markOf, scanned, judged}
 use Rattle.pattern.proofs.Binary.{Bits}
 use Rattle.pattern.proofs.Offsets.{offsetOf, offset-start, onward-is, one-is, may-is, filled-is, near-start, near-on}
 

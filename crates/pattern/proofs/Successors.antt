@@ -46,7 +46,7 @@ module _ (e : Envelope) where
       go _ (no-envelope f) q = absurd (omega arith)
       go _ (too-long t k) q = absurd (omega arith)
       go _ (no-bit t k l) q = absurd (omega arith)
-      go _ (forbidden t k l) q = absurd (omega arith)
+      go _ (forbidden t k b l) q = absurd (omega arith)
 
   successor : (p : List ℕ) → Passing e p → (q : List ℕ) → nextOf e p ≡ some q → Successor e p q
   successor p v q h =

@@ -1,6 +1,7 @@
 -- What `check`, `first` and `next` answer, and what they write, for any four numbers and any bytes.
 -- "Patterns: 12, 13, 14 over the whole pattern, 15."
 use Prim.Native.Nat.{ℕ}
+use mathlib.Core.Path.{_≡_}
 use mathlib.Core.Bool.{Bool, true, false, cond}
 use mathlib.Core.List.{List}
 use mathlib.Core.Option.{Option, none, some}
@@ -17,18 +18,12 @@ use Rattle.pattern.specs.declared.Answer.the-variants.{Inside, Done, Las
 use Rattle.pattern.specs.Step.{oneMay, zeroMay}
 use Rattle.pattern.specs.Pattern.{longest, plain, passed, fill, next}
 
--- the number and the place of a refusal, 0 and 0 where there is none
+-- the number of a refusal, 0 where there is none
 abbrev pub numberOf : Answer → ℕ
 numberOf Inside = 0
 numberOf Done = 0
 numberOf Last = 0
 numberOf (Refused number place) = number
-
-abbrev pub placeOf : Answer → ℕ
-placeOf Inside = 0
-placeOf Done = 0
-placeOf Last = 0
-placeOf (Refused number place) = place
 
 -- four numbers as they come
 abbrev pub given : ℤ → ℤ → ℕ → ℕ → Envelope
@@ -100,3 +95,16 @@ orElse none p = p
 
 unfoldable pub nextBytes : Envelope → List ℕ → List ℕ
 nextBytes e p = written (nextAnswer e p) (orElse (nextOf e p) p) p
+
+-- the contract of `check`: the four numbers e, the pattern p
+pub record Checks (e : Envelope) (p : List ℕ) (answer : Answer) : Type 0 where
+  pub answer-is : answer ≡ checkAnswer e p
+
+-- the contracts of `first` and `next`: the slice p at the beginning, q at the end
+pub record Firsts (e : Envelope) (p : List ℕ) (answer : Answer) (q : List ℕ) : Type 0 where
+  pub answer-is : answer ≡ firstAnswer e p
+  pub bytes-are : q ≡ firstBytes e p
+
+pub record Nexts (e : Envelope) (p : List ℕ) (answer : Answer) (q : List ℕ) : Type 0 where
+  pub answer-is : answer ≡ nextAnswer e p
+  pub bytes-are : q ≡ nextBytes e p

@@ -2,5 +2,6 @@ pub mod Step
 pub mod Pattern
 pub mod Beginning
 pub mod Answer
-pub mod Scan
+pub mod Table
 pub mod Walk
+pub mod Inner

@@ -3,15 +3,15 @@ use Prim.Native.Nat.{ℕ, zero, suc, _≤_, _<_}
 use mathlib.Core.Path.{_≡_}
 use mathlib.Core.Logic.{_↔_}
 use mathlib.Core.List.{List, [], _∷_}
-use lib.ListN.{length, getD, take}
-use Rattle.reply.specs.Numbers.{noEnvelope, longPattern, notABit, outside}
+use lib.ListN.{length, getD}
 use Rattle.envelope.specs.declared.Envelope.{Envelope}
 use Rattle.envelope.specs.Envelope.{Taken}
 use Rattle.pattern.specs.declared.Answer.{Answer}
 use Rattle.pattern.specs.declared.Answer.the-variants.{Inside, Done, Last, Refused}
 use Rattle.pattern.specs.Pattern.{longest, number}
 use Rattle.pattern.specs.Beginning.{Begins}
-use Rattle.pattern.specs.Answer.{numberOf, placeOf, checkAnswer, firstAnswer, firstBytes, nextAnswer, nextBytes}
+use Rattle.pattern.specs.Table.{Unfit, Refuses}
+use Rattle.pattern.specs.Answer.{checkAnswer, firstAnswer, firstBytes, nextAnswer, nextBytes, Firsts, Nexts}
 
 -- q is the least beginning, of p's length, that comes after p in binary order
 pub record Successor (e : Envelope) (p q : List ℕ) : Type 0 where
@@ -26,13 +26,13 @@ Greatest e p = (r : List ℕ) → length r ≡ length p → Begins e r → numbe
 
 -- from p, each "next" writes the pattern that comes after it in the list; of the last one it answers "last" and writes nothing
 abbrev pub Steps : Envelope → List ℕ → List (List ℕ) → Type 0
-Steps e p [] = (nextAnswer e p ≡ Last) × (nextBytes e p ≡ p)
-Steps e p (q ∷ qs) = (nextAnswer e p ≡ Done) × (nextBytes e p ≡ q) × Steps e q qs
+Steps e p [] = (a : Answer) (w : List ℕ) → Nexts e p a w → (a ≡ Last) × (w ≡ p)
+Steps e p (q ∷ qs) = ((a : Answer) (w : List ℕ) → Nexts e p a w → (a ≡ Done) × (w ≡ q)) × Steps e q qs
 
 -- what "first" writes over any m bytes, and then "next", to the last
 abbrev pub Met : Envelope → ℕ → List (List ℕ) → Type 0
 Met e m [] = ⊥
-Met e m (p ∷ ps) = ((d : List ℕ) → length d ≡ m → (firstAnswer e d ≡ Done) × (firstBytes e d ≡ p)) × Steps e p ps
+Met e m (p ∷ ps) = ((d : List ℕ) → length d ≡ m → (a : Answer) (w : List ℕ) → Firsts e d a w → (a ≡ Done) × (w ≡ p)) × Steps e p ps
 
 -- the walk over the patterns of length m
 pub record Walks (e : Envelope) (m : ℕ) : Type 0 where
@@ -48,16 +48,11 @@ pub record Walks (e : Envelope) (m : ℕ) : Type 0 where
   -- "and nothing else"
   pub nothing-else : (i : ℕ) → i < length met → (length (getD met i []) ≡ m) × Begins e (getD met i [])
 
--- what a refusal's number and place say
+-- each refusal is given exactly when the table says, at its place
 pub record Refusals (e : Envelope) (p : List ℕ) : Type 0 where
-  -- "four numbers that are no taken, normal envelope"
-  pub no-envelope : (numberOf (checkAnswer e p) ≡ noEnvelope) ↔ (Taken e → ⊥)
-  -- "pattern longer than 4,096"
-  pub long-pattern : (numberOf (checkAnswer e p) ≡ longPattern) ↔ (Taken e × (longest < length p))
-  -- "pattern byte not 0 or 1", at "the first such"
-  pub not-a-bit : numberOf (checkAnswer e p) ≡ notABit → (1 < getD p (placeOf (checkAnswer e p)) 0) × ((t : ℕ) → t < placeOf (checkAnswer e p) → getD p t 0 ≤ 1)
-  -- "pattern outside the envelope", at the "first forbidden step": the bits before it are a beginning, and with it they are none
-  pub is-outside : numberOf (checkAnswer e p) ≡ outside → Begins e (take (placeOf (checkAnswer e p)) p) × (Begins e (take (suc (placeOf (checkAnswer e p))) p) → ⊥)
+  pub check : (number place : ℕ) → (checkAnswer e p ≡ Refused number place) ↔ Refuses e p number place
+  pub first : (number place : ℕ) → (firstAnswer e p ≡ Refused number place) ↔ Unfit e p number place
+  pub next : (number place : ℕ) → (nextAnswer e p ≡ Refused number place) ↔ Refuses e p number place
 
 -- what follows an answer: ps where that is "done"
 abbrev pub afterDone : Answer → List (List ℕ) → List (List ℕ)

@@ -9,8 +9,8 @@ ghost use Rattle.envelope.specs.Envelope.{Taken};
 ghost use Rattle.envelope.specs.Standing.{standingOf};
 ghost use Rattle.pattern.specs.declared.Judged.the-variants.{Sound};
 ghost use Rattle.pattern.specs.Pattern.{longest, plain};
-ghost use Rattle.pattern.specs.Answer.{given, isFine, checkAnswer, firstAnswer, firstBytes, nextAnswer, nextBytes};
-ghost use Rattle.pattern.specs.Scan.{Near, oneAt, zeroAt, mayAt, stepOf, onward, leastAt, filled, reached, scanned, leadingOf, floorOf, markOf, largestFrom, judged};
+ghost use Rattle.pattern.specs.Answer.{given, isFine, Checks, Firsts, Nexts};
+ghost use Rattle.pattern.specs.Inner.Scan.{Near, oneAt, zeroAt, mayAt, stepOf, onward, leastAt, filled, reached, scanned, leadingOf, floorOf, markOf, largestFrom, judged};
 use envelope::Envelope;
 use envelope::Standing;
 
@@ -296,7 +296,7 @@ fn fill(e: Envelope, pattern: &mut [u8], from: usize, start: i64)
 
 // Inside, or 12 to 15.
 pub fn check(k: i64, K: i64, l: u64, n: u64, pattern: &[u8]) -> Answer
-    ensures { λ r. ⌜ r ≡ checkAnswer (given k K l n) (now (pattern .entry)) ⌝ }
+    ensures { λ r. ⌜ Checks (given k K l n) (now (pattern .entry)) r ⌝ }
 {
     match judge(Envelope { k, K, l, n }, pattern) {
         Judged::Unsound(number, place) => Answer::Refused(number, place),
@@ -306,8 +306,7 @@ pub fn check(k: i64, K: i64, l: u64, n: u64, pattern: &[u8]) -> Answer
 
 // Fills the slice with the first pattern, or answers 12 or 13.
 pub fn first(k: i64, K: i64, l: u64, n: u64, pattern: &mut [u8]) -> Answer
-    ensures answer { λ r. ⌜ r ≡ firstAnswer (given k K l n) (now (pattern .entry)) ⌝ }
-    ensures bytes { λ _. ⌜ now (pattern .exit) ≡ firstBytes (given k K l n) (now (pattern .entry)) ⌝ }
+    ensures { λ r. ⌜ Firsts (given k K l n) (now (pattern .entry)) r (now (pattern .exit)) ⌝ }
 {
     let e = Envelope { k, K, l, n };
     if !is_taken(e) {
@@ -322,8 +321,7 @@ pub fn first(k: i64, K: i64, l: u64, n: u64, pattern: &mut [u8]) -> Answer
 
 // Turns the pattern into its successor, answers that it is the last, or 12 to 15.
 pub fn next(k: i64, K: i64, l: u64, n: u64, pattern: &mut [u8]) -> Answer
-    ensures answer { λ r. ⌜ r ≡ nextAnswer (given k K l n) (now (pattern .entry)) ⌝ }
-    ensures bytes { λ _. ⌜ now (pattern .exit) ≡ nextBytes (given k K l n) (now (pattern .entry)) ⌝ }
+    ensures { λ r. ⌜ Nexts (given k K l n) (now (pattern .entry)) r (now (pattern .exit)) ⌝ }
 {
     let e = Envelope { k, K, l, n };
     match judge(e, pattern) {

@@ -17,7 +17,10 @@ use Rattle.field.proofs.Spelling.{end}
 use Rattle.expression.specs.Expression.{Clock, spellClock}
 use Rattle.expression.proofs.Lookup.{none-some, lookup-below}
 use Rattle.sheet.specs.Sheet.{spellSheet, ClockRow}
-use Rattle.sheet.specs.Reader.{Opened, readSheet}
+use Rattle.sheet.specs.Reader.{readSheet}
+use Rattle.sheet.specs.Opened.{Opened}
+use Rattle.sheet.specs.Format.{Passed}
+use Rattle.sheet.proofs.Format.{accepted-passed, passed-accepted}
 use Rattle.sheet.proofs.Rows.{every-at}
 use Rattle.sheet.proofs.Sheets.{Opens, sheet-reads}
 use Rattle.register.specs.Locating.{clockPlace, locatedIn}
@@ -102,7 +105,7 @@ module _ (s : List ℕ) (i : ℕ) (o : Opened) (c : ℕ) (opens : Opens s o c) w
       (record {
         there = lookup-below (o .sheet .clocks) i k e;
         spells = turned k e;
-        accepted = opens-read (set s place 1) (closeIn (only i) o) c after ∙ ap (got (closeIn (only i) o)) (after .end);
+        passes = accepted-passed (set s place 1) (closeIn (only i) o) c (opens-read (set s place 1) (closeIn (only i) o) c after) .0;
         alters = alters (only i) o (opens .legal);
         links = link-states (closeIn (only i) o);
         same-length = length-set s place 1;
@@ -129,13 +132,17 @@ each-opens (i ∷ is) s o c h =
 pub any-set : (s : List ℕ) → AllBytes s → AnySet s
 any-set s bytes =
     record {
-      spells = λ is o c h. opened is o c h .bytes;
-      accepted = λ is o c h. opens-read (closeEach is s) (closeIn (among is) o) c (opened is o c h);
-      alters = λ is o c h. alters (among is) o (sheet-reads s bytes o c h .legal);
-      links = λ is o c h. link-states (closeIn (among is) o);
+      spells = λ is o p. opened is o (length s) (was-read o p) .bytes;
+      passes = λ is o p.
+          accepted-passed (closeEach is s) (closeIn (among is) o) (length s) (opens-read (closeEach is s) (closeIn (among is) o) (length s) (opened is o (length s) (was-read o p))) .0;
+      alters = λ is o p. alters (among is) o (sheet-reads s bytes o (length s) (was-read o p) .legal);
+      links = λ is o p. link-states (closeIn (among is) o);
       any-order = λ is js same. either is js same (readSheet s) refl;
     }
   where
+    was-read : (o : Opened) → Passed s o → readSheet s ≡ got o (length s)
+    was-read o p = passed-accepted s o (length s) p refl
+
     opened : (is : List ℕ) (o : Opened) (c : ℕ) → readSheet s ≡ got o c → Opens (closeEach is s) (closeIn (among is) o) c
     opened is o c h = each-opens is s o c (sheet-reads s bytes o c h)
 

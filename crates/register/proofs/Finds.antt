@@ -21,18 +21,28 @@ use Rattle.expression.proofs.Lookup.{lookup-there}
 use Rattle.sheet.specs.declared.Found.{Found}
 use Rattle.sheet.specs.declared.Reading.{Reading}
 use Rattle.sheet.specs.Sheet.{rows, section}
-use Rattle.sheet.specs.Reader.{Opened, readSheet}
-use Rattle.sheet.specs.Sections.{foundOf, readingOf}
+use Rattle.sheet.specs.Reader.{readSheet}
+use Rattle.sheet.specs.Opened.{Opened}
+use Rattle.sheet.specs.Inner.Sections.{foundOf, readingOf}
 use Rattle.sheet.proofs.Rows.{same-got}
 use Rattle.sheet.proofs.Readings.{mapped-got, mapped-refused}
 use Rattle.sheet.proofs.Sheets.{Opens, sheet-reads}
 use Rattle.register.specs.Locating.{clockPlace, Located, placeOf, listedClock, locatedIn}
-use Rattle.register.specs.Skipping.{HasExpr, HasClocks}
-use Rattle.register.specs.Closing.{closingOf}
-use Rattle.register.specs.Quoting.{quotingOf}
+use Rattle.register.specs.Inner.Skipping.{HasExpr, HasClocks}
+use Rattle.register.specs.declared.Closing.{Closing}
+use Rattle.register.specs.Closing.{closingOf, closingReply, closedBytes, Closes}
+use Rattle.register.specs.Quoting.{quotingOf, quotedFrom, quotedPart, Quotes}
 use Rattle.register.proofs.Places.{clock-bytes, state-byte, next-place}
 use Rattle.register.proofs.Skips.{clock-expr}
 use Rattle.register.proofs.Closes.{past-the-last}
+
+-- ---- the contracts, by what closing and quoting come to
+pub closes-by : {s t : List ℕ} {i : ℕ} {r : Closing} {x : Read ℕ} → closingOf s i ≡ x → r ≡ closingReply x → t ≡ closedBytes x s → Closes s i r t
+closes-by e p q = record { reply-is = rw e p; bytes-are = rw e q }
+
+pub quotes-by : {s part : List ℕ} {i : ℕ} {at from : ℕ × ℕ} {x : Read ℕ} → quotingOf s i ≡ x → part ≡ quotedPart x s → from .0 ≡ at .0 → from .1 ≡ quotedFrom x + at .1
+    → Quotes s i at part from
+quotes-by e p q r = record { part-is = rw e p; same-memory = q; begins = rw e r }
 
 -- the sheet that was read has a clock i, and its clocks begin at `first`
 pub record Chosen (s : List ℕ) (first i : ℕ) : Type 0 where

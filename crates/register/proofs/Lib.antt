@@ -6,4 +6,5 @@ pub mod LinkStates
 pub mod Closes
 pub mod Quotes
 pub mod Finds
+pub mod Table
 pub mod Promise

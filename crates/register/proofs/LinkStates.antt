@@ -15,12 +15,13 @@ use Rattle.link.specs.Link.{sizeIn, openSizeOf}
 use Rattle.expression.specs.Expression.{Clock}
 use Rattle.expression.proofs.Lookup.{lookup-there}
 use Rattle.sheet.specs.Sheet.{Link, Every, LinkRow, Legal}
-use Rattle.sheet.specs.Reader.{Opened}
+use Rattle.sheet.specs.Opened.{Opened}
 use Rattle.sheet.specs.Rooms.{markOf, verdictIn, rowOf, total, sizeOfRow, openRoom, wholeRoom}
 use Rattle.sheet.proofs.Rows.{each-every}
 use Rattle.register.specs.Closing.{marked, closeIn}
 use Rattle.register.specs.OpenLinks.{withIf, those, isOpen, untouched, verdictOfRow}
-use Rattle.register.specs.Promise.{MarkedClosed, LinkStates, Alters}
+use Rattle.register.specs.Table.{MarkedClosed}
+use Rattle.register.specs.Promise.{LinkStates, Alters}
 use Rattle.register.proofs.Marks.{mark-at, unmarked-at}
 
 -- ---- a link's state, from whether its ends are marked

@@ -1,17 +1,18 @@
 -- Quoting from the bytes: each answer, and that the part is the spelling of the clock's expression. Assumes nothing.
-use mathlib.Core.Path.{_≡_, refl}
+use mathlib.Core.Path.{_≡_, ap, _∙_}
 use mathlib.Core.List.{List}
 use mathlib.Core.Option.{none, some}
-use Prim.Native.Nat.{ℕ, _+_}
+use Prim.Native.Nat.{ℕ, _+_, _<_}
 use native.Mathlib.Numerals.{add-one}
 use native.Mathlib.Omega.{arith}
 use lib.ListN.{length, getElem?}
 use Rattle.reply.specs.Numbers.{noClock}
-use Rattle.field.specs.Read.{Read.got, Read.refused}
+use Rattle.field.specs.Read.{Read, Read.got, Read.refused}
 use Rattle.field.specs.Spelling.{Bytes}
 use Rattle.field.proofs.Spelling.{end, part}
 use Rattle.expression.specs.Expression.{Clock, spell, spellClock}
-use Rattle.sheet.specs.Reader.{Opened, readSheet}
+use Rattle.sheet.specs.Reader.{readSheet}
+use Rattle.sheet.specs.Opened.{Opened}
 use Rattle.sheet.proofs.Sheets.{Opens}
 use Rattle.register.specs.Locating.{clockPlace, locatedIn}
 use Rattle.register.specs.Quoting.{quotingOf, quotedFrom, quotedPart, quoteReply}
@@ -33,19 +34,26 @@ module _ (s : List ℕ) (i : ℕ) (o : Opened) (c : ℕ) (read : readSheet s ≡
   unfolding quotingOf locatedIn
   quoting-there k e = rw (read, e)
 
-pub quoted : (s : List ℕ) (i : ℕ) (o : Opened) (c : ℕ) → Opens s o c → (k : Clock) → getElem? (o .sheet .clocks) i ≡ some k
-    → Quoted s (clockPlace (o .sheet) i) k (quotedFrom (quotingOf s i)) (quotedPart (quotingOf s i) s) (quoteReply (quotingOf s i))
-quoted s i o c opens k e =
-    let place : ℕ = clockPlace (o .sheet) i in
-    let to : ℕ = place + length (spellClock k) in
-    let b : Bytes s place (spellClock k) to = rw (opens .bytes) (clock-bytes (o .sheet) i k e) in
-    let x : Bytes s (place + 1) (spell (k .expr)) to = rw add-one (expr-bytes k b) in
-    rw (quoting-there s i o c (opens-read s o c opens) k e)
-    (record {
-      spelling = part x;
-      behind = refl;
-      inside = rw (part x) (omega (arith, end x));
-      never-empty = rw (part x) (has-tag (k .expr));
-      number-0 = refl;
-      place-0 = refl;
-    })
+module _ (s : List ℕ) (i : ℕ) (o : Opened) (c : ℕ) (opens : Opens s o c) (k : Clock) (e : getElem? (o .sheet .clocks) i ≡ some k) where
+  there : quotingOf s i ≡ got (clockPlace (o .sheet) i + 1) (clockPlace (o .sheet) i + length (spellClock k))
+  there = quoting-there s i o c (opens-read s o c opens) k e
+
+  bytes : Bytes s (clockPlace (o .sheet) i + 1) (spell (k .expr)) (clockPlace (o .sheet) i + length (spellClock k))
+  bytes = rw add-one (expr-bytes k (rw (opens .bytes) (clock-bytes (o .sheet) i k e)))
+
+  -- the part is the expression's spelling, and never empty
+  pub part-spelled : (quotedPart (quotingOf s i) s ≡ spell (k .expr)) × (0 < length (quotedPart (quotingOf s i) s))
+  part-spelled = rw there (part bytes, rw (part bytes) (has-tag (k .expr)))
+
+  pub quoted : (at from : ℕ × ℕ) → from .0 ≡ at .0 → from .1 ≡ quotedFrom (quotingOf s i) + at .1
+      → Quoted s (clockPlace (o .sheet) i) k at (quotedPart (quotingOf s i) s) from (quoteReply (quotingOf s i))
+  quoted at from same begins =
+      record {
+        spelling = part-spelled .0;
+        same-memory = same;
+        behind = begins ∙ ap (λ (x : Read ℕ). quotedFrom x + at .1) there;
+        inside = rw (part-spelled .0) (omega (arith, end bytes));
+        never-empty = part-spelled .1;
+        number-0 = rw there;
+        place-0 = rw there;
+      }

@@ -11,7 +11,8 @@ use Rattle.field.specs.Spelling.{bytesOf}
 use Rattle.field.proofs.Spelling.{bytesOf-length}
 use Rattle.expression.specs.Expression.{Clock, spellWord, spellClock}
 use Rattle.sheet.specs.Sheet.{Sheet, spellLink, rows, section, spellSheet, Each, LinkRow, Legal}
-use Rattle.sheet.specs.Reader.{Opened, readSheet}
+use Rattle.sheet.specs.Reader.{readSheet}
+use Rattle.sheet.specs.Opened.{Opened}
 use Rattle.sheet.proofs.Sheets.{Opens, sheet-read}
 use Rattle.register.specs.Locating.{clockPlace}
 use Rattle.register.specs.Closing.{markClocks, closeSheet, closeIn, only}

@@ -15,7 +15,7 @@ use Rattle.expression.specs.Expression.Expr.{word, declared, negated, on, clock
 use Rattle.expression.proofs.Lookup.{lookup-there}
 use Rattle.sheet.specs.Sheet.{Sheet, rows}
 use Rattle.register.specs.Locating.{clockPlace}
-use Rattle.register.specs.Skipping.{ownBytes, partsOf, HasExpr, HasClocks}
+use Rattle.register.specs.Inner.Skipping.{ownBytes, partsOf, HasExpr, HasClocks}
 use Rattle.register.proofs.Places.{clock-bytes, expr-bytes, next-place}
 
 -- n expressions are left to skip, from a to c

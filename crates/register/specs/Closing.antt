@@ -1,4 +1,5 @@
 -- Closing clocks: the sheet with some clocks marked closed, the byte that closing one turns, the reply, and the bytes at the end.
+use mathlib.Core.Path.{_≡_}
 use mathlib.Core.Bool.{Bool, true, false, _||_}
 use mathlib.Core.List.{List, [], _∷_}
 use Prim.Native.Nat.{ℕ, suc, _+_}
@@ -8,7 +9,7 @@ use Rattle.reply.specs.Numbers.{alreadyClosed}
 use Rattle.field.specs.Read.{Read, Read.got, Read.refused, bind, pick}
 use Rattle.expression.specs.Expression.{Clock}
 use Rattle.sheet.specs.Sheet.{Sheet}
-use Rattle.sheet.specs.Reader.{Opened}
+use Rattle.sheet.specs.Opened.{Opened}
 use Rattle.register.specs.declared.Closing.{Closing}
 use Rattle.register.specs.Locating.{locatedIn}
 
@@ -56,6 +57,11 @@ replyPlace (Closing.Refused number place) = place
 abbrev pub closedBytes : Read ℕ → List ℕ → List ℕ
 closedBytes (got place c) s = set s place 1
 closedBytes (refused number place) s = s
+
+-- the contract of `close`: the reply r, and the bytes t at the end
+pub record Closes (s : List ℕ) (i : ℕ) (r : Closing) (t : List ℕ) : Type 0 where
+  pub reply-is : r ≡ closingReply (closingOf s i)
+  pub bytes-are : t ≡ closedBytes (closingOf s i) s
 
 -- clocks closed one after another
 unfoldable pub closeEach : List ℕ → List ℕ → List ℕ

@@ -1,6 +1,7 @@
 pub mod Locating
-pub mod Skipping
 pub mod Closing
 pub mod OpenLinks
 pub mod Quoting
+pub mod Table
 pub mod Promise
+pub mod Inner

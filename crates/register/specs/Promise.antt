@@ -6,26 +6,19 @@ use mathlib.Core.List.{List, [], map}
 use mathlib.Core.Option.{some}
 use Prim.Native.Nat.{ℕ, _+_, _≤_, _<_}
 use lib.ListN.{length, getD, getElem?}
-use Rattle.reply.specs.Numbers.{trailing, noClock, alreadyClosed}
-use Rattle.field.specs.Read.{Read.got, Read.refused}
 use Rattle.expression.specs.Expression.{Clock, spell}
 use Rattle.sheet.specs.Sheet.{Link, spellSheet}
-use Rattle.sheet.specs.Reader.{Opened, readSheet}
+use Rattle.sheet.specs.Format.{Passed}
+use Rattle.sheet.specs.Opened.{Opened}
 use Rattle.sheet.specs.Rooms.{rowOf, rowsOf, total, sizeOfRow, openRoom, wholeRoom}
 use Rattle.register.specs.declared.Closing.{Closing}
 use Rattle.register.specs.declared.QuoteReply.{QuoteReply}
 use Rattle.register.specs.Locating.{clockPlace}
-use Rattle.register.specs.Closing.{closedClock, closeSheet, closeIn, closingOf, closingReply, numberOf, replyPlace, closedBytes, closeEach, only, among}
+use Rattle.register.specs.Closing.{closedClock, closeSheet, closeIn, numberOf, replyPlace, closeEach, only, among}
+use Rattle.register.specs.Table.{MarkedClosed}
 use Rattle.register.specs.OpenLinks.{those, isOpen, untouched, verdictOfRow}
-use Rattle.register.specs.Quoting.{quotingOf, quotedFrom, quotedPart, quoteReply}
 
 -- ---- links
-
--- clock i is there and marked closed
-pub record MarkedClosed (o : Opened) (i : ℕ) : Type 0 where
-  pub clock : Clock
-  pub there : getElem? (o .sheet .clocks) i ≡ some clock
-  pub closed : clock .state ≡ 1
 
 -- the states of a sheet's links
 pub record LinkStates (o : Opened) : Type 0 where
@@ -58,7 +51,7 @@ pub record OneClosed (s : List ℕ) (i : ℕ) (o : Opened) (t : List ℕ) : Type
   pub there : i < length (o .sheet .clocks)
   -- the sheet spells the same sheet with one clock marked, and is accepted with the same table
   pub spells : t ≡ spellSheet (closeSheet (only i) (o .sheet))
-  pub accepted : readSheet t ≡ got (closeIn (only i) o) (length t)
+  pub passes : Passed t (closeIn (only i) o)
   pub alters : Alters (only i) o (closeIn (only i) o)
   pub links : LinkStates (closeIn (only i) o)
   -- one byte turns from 0 to 1, and no other is altered
@@ -67,66 +60,44 @@ pub record OneClosed (s : List ℕ) (i : ℕ) (o : Opened) (t : List ℕ) : Type
   pub now-closed : getD t (clockPlace (o .sheet) i) 0 ≡ 1
   pub other-bytes : (j : ℕ) → j ≢ clockPlace (o .sheet) i → getD t j 0 ≡ getD s j 0
 
--- what closing clock i promises: the reply r, and the bytes t at the end
-pub record Closes (s : List ℕ) (i : ℕ) (r : Closing) (t : List ℕ) : Type 0 where
-  pub reply-is : r ≡ closingReply (closingOf s i)
-  pub bytes-are : t ≡ closedBytes (closingOf s i) s
-
+-- what closing clock i promises: the reply r, and the bytes t at the end. Its refusals: specs/Table
 pub record ClosePromise (s : List ℕ) (i : ℕ) (r : Closing) (t : List ℕ) : Type 0 where
-  -- "1 to 10"
-  pub sheet-first : (number place : ℕ) → readSheet s ≡ refused number place → (numberOf r ≡ number) × (replyPlace r ≡ place) × (1 ≤ number) × (number ≤ trailing)
-  -- "16: no such clock", at 0
-  pub no-clock : (o : Opened) (c : ℕ) → readSheet s ≡ got o c → length (o .sheet .clocks) ≤ i → (numberOf r ≡ noClock) × (replyPlace r ≡ 0)
-  -- "17: clock already closed", at 0
-  pub already : (o : Opened) (c : ℕ) → readSheet s ≡ got o c → MarkedClosed o i → (numberOf r ≡ alreadyClosed) × (replyPlace r ≡ 0)
   -- a clock that is there and not closed is closed, and the reply names its byte
-  pub closes : (o : Opened) (c : ℕ) (k : Clock) → readSheet s ≡ got o c → getElem? (o .sheet .clocks) i ≡ some k → k .state ≢ 1
+  pub closes : (o : Opened) (k : Clock) → Passed s o → getElem? (o .sheet .clocks) i ≡ some k → k .state ≢ 1
       → (numberOf r ≡ 0) × (replyPlace r ≡ clockPlace (o .sheet) i) × OneClosed s i o t
   -- and no other answer is 0
-  pub only-then : numberOf r ≡ 0 → (o : Opened) × (c : ℕ) × (readSheet s ≡ got o c) × OneClosed s i o t
+  pub only-then : numberOf r ≡ 0 → (o : Opened) × Passed s o × OneClosed s i o t
   -- a refusal writes nothing
   pub refusal-writes-nothing : numberOf r ≢ 0 → t ≡ s
 
 -- closing any set of clocks
 pub record AnySet (s : List ℕ) : Type 0 where
   -- one after another: the bytes spell the same sheet with just the clocks of the list marked, and are accepted with the same table
-  pub spells : (is : List ℕ) (o : Opened) (c : ℕ) → readSheet s ≡ got o c → closeEach is s ≡ spellSheet (closeSheet (among is) (o .sheet))
-  pub accepted : (is : List ℕ) (o : Opened) (c : ℕ) → readSheet s ≡ got o c → readSheet (closeEach is s) ≡ got (closeIn (among is) o) c
-  pub alters : (is : List ℕ) (o : Opened) (c : ℕ) → readSheet s ≡ got o c → Alters (among is) o (closeIn (among is) o)
-  pub links : (is : List ℕ) (o : Opened) (c : ℕ) → readSheet s ≡ got o c → LinkStates (closeIn (among is) o)
+  pub spells : (is : List ℕ) (o : Opened) → Passed s o → closeEach is s ≡ spellSheet (closeSheet (among is) (o .sheet))
+  pub passes : (is : List ℕ) (o : Opened) → Passed s o → Passed (closeEach is s) (closeIn (among is) o)
+  pub alters : (is : List ℕ) (o : Opened) → Passed s o → Alters (among is) o (closeIn (among is) o)
+  pub links : (is : List ℕ) (o : Opened) → Passed s o → LinkStates (closeIn (among is) o)
   -- in any order, and however often, two lists of the same clocks give the same bytes
   pub any-order : (is js : List ℕ) → ((i : ℕ) → among is i ≡ among js i) → closeEach is s ≡ closeEach js s
 
 -- ---- quoting
 
--- what quoting clock i promises: the part, its beginning in the sheet, and the reply beside it
-pub record Quotes (s : List ℕ) (i : ℕ) (from : ℕ) (part : List ℕ) (r : QuoteReply) : Type 0 where
-  pub from-is : from ≡ quotedFrom (quotingOf s i)
-  pub part-is : part ≡ quotedPart (quotingOf s i) s
-  pub reply-is : r ≡ quoteReply (quotingOf s i)
-
--- clock k of the sheet is quoted
-pub record Quoted (s : List ℕ) (place : ℕ) (k : Clock) (from : ℕ) (part : List ℕ) (r : QuoteReply) : Type 0 where
-  -- what is quoted is the spelling of the clock's expression, behind its state
+-- clock k of the sheet is quoted: the sheet lies at `at`, and the part at `from`, each a block of memory and an offset in it
+pub record Quoted (s : List ℕ) (place : ℕ) (k : Clock) (at : ℕ × ℕ) (part : List ℕ) (from : ℕ × ℕ) (r : QuoteReply) : Type 0 where
+  -- what is quoted is the spelling of the clock's expression
   pub spelling : part ≡ spell (k .expr)
-  pub behind : from ≡ place + 1
-  pub inside : from + length part ≤ length s
+  -- "that very part of the sheet": it lies in the sheet's own memory, behind the clock's state
+  pub same-memory : from .0 ≡ at .0
+  pub behind : from .1 ≡ place + 1 + at .1
+  pub inside : place + 1 + length part ≤ length s
   -- an empty part is no expression
   pub never-empty : 0 < length part
   pub number-0 : r .number ≡ 0
   pub place-0 : r .place ≡ 0
 
-pub record QuotePromise (s : List ℕ) (i : ℕ) (from : ℕ) (part : List ℕ) (r : QuoteReply) : Type 0 where
-  pub quoted : (o : Opened) (c : ℕ) (k : Clock) → readSheet s ≡ got o c → getElem? (o .sheet .clocks) i ≡ some k → Quoted s (clockPlace (o .sheet) i) k from part r
-  -- "1 to 10 or 16": an empty part, and the refusal's number and place
-  pub sheet-first : (number place : ℕ) → readSheet s ≡ refused number place → (part ≡ []) × (r .number ≡ number) × (r .place ≡ place) × (1 ≤ number) × (number ≤ trailing)
-  pub no-clock : (o : Opened) (c : ℕ) → readSheet s ≡ got o c → length (o .sheet .clocks) ≤ i → (part ≡ []) × (r .number ≡ noClock) × (r .place ≡ 0)
+pub record QuotePromise (s : List ℕ) (i : ℕ) (at : ℕ × ℕ) (part : List ℕ) (from : ℕ × ℕ) (r : QuoteReply) : Type 0 where
+  pub quoted : (o : Opened) (k : Clock) → Passed s o → getElem? (o .sheet .clocks) i ≡ some k → Quoted s (clockPlace (o .sheet) i) k at part from r
   -- the reply is 0 just where a part is quoted
   pub quoted-at-0 : r .number ≡ 0 → 0 < length part
-  pub empty-else : r .number ≢ 0 → part ≡ []
-
--- ---- each decides every returned number and every byte: no second reply satisfies it
-pub record NoSecondReply : Type 0 where
-  pub one-closing : (s : List ℕ) (i : ℕ) (r q : Closing) (t u : List ℕ) → Closes s i r t → Closes s i q u → (r ≡ q) × (t ≡ u)
-  pub one-quoting : (s : List ℕ) (i from from′ : ℕ) (part part′ : List ℕ) (r q : QuoteReply) → Quotes s i from part r → Quotes s i from′ part′ q
-      → (from ≡ from′) × (part ≡ part′) × (r ≡ q)
+  -- else it is empty, and lies at the start of the sheet
+  pub empty-else : r .number ≢ 0 → (part ≡ []) × (from .0 ≡ at .0) × (from .1 ≡ at .1)

@@ -1,4 +1,5 @@
 -- Quoting a clock: where its expression lies in the sheet, the part that is handed back, and the reply beside it.
+use mathlib.Core.Path.{_≡_}
 use mathlib.Core.List.{List, []}
 use Prim.Native.Nat.{ℕ, _+_, _-_}
 use lib.ListN.{take, drop}
@@ -24,3 +25,13 @@ quotedPart (refused number place) s = []
 abbrev pub quoteReply : Read ℕ → QuoteReply
 quoteReply (got from to) = record { number = 0; place = 0 }
 quoteReply (refused number place) = record { number = number; place = place }
+
+-- the contract of `quote`, where the sheet lies at `at` and the part at `from`, each a block of memory and an offset in it
+pub record Quotes (s : List ℕ) (i : ℕ) (at : ℕ × ℕ) (part : List ℕ) (from : ℕ × ℕ) : Type 0 where
+  pub part-is : part ≡ quotedPart (quotingOf s i) s
+  pub same-memory : from .0 ≡ at .0
+  pub begins : from .1 ≡ quotedFrom (quotingOf s i) + at .1
+
+-- the contract of `quote_reply`
+pub record RepliesTo (s : List ℕ) (i : ℕ) (r : QuoteReply) : Type 0 where
+  pub reply-is : r ≡ quoteReply (quotingOf s i)

@@ -1,13 +1,13 @@
 // Closing a clock, and quoting its expression.
 ghost use mathlib.Core.Path.{_≡_};
-ghost use Prim.Native.Nat.{ℕ, _+_};
+ghost use Prim.Native.Nat.{ℕ};
 ghost use Rattle.field.specs.Field.{fieldOf};
 ghost use Rattle.field.specs.Read.{mapped};
 ghost use Rattle.sheet.specs.Sheet.{Sheet};
 ghost use Rattle.register.specs.Locating.{clockPlace, placeOf, locatedIn};
-ghost use Rattle.register.specs.Skipping.{ownBytes, partsOf, HasExpr, HasClocks};
-ghost use Rattle.register.specs.Closing.{closingOf, closingReply, closedBytes};
-ghost use Rattle.register.specs.Quoting.{quotingOf, quotedFrom, quotedPart, quoteReply};
+ghost use Rattle.register.specs.Inner.Skipping.{ownBytes, partsOf, HasExpr, HasClocks};
+ghost use Rattle.register.specs.Closing.{Closes};
+ghost use Rattle.register.specs.Quoting.{Quotes, RepliesTo};
 use field::Cursor;
 use field::Field;
 use sheet::Reading;
@@ -91,8 +91,7 @@ pub enum Closing {
 
 // Closes a clock: its state byte turns from 0 to 1. A refusal writes nothing.
 pub fn close(sheet: &mut [u8], clock: usize) -> Closing
-    ensures reply { λ r. ⌜ r ≡ closingReply (closingOf (now (sheet .entry)) clock) ⌝ }
-    ensures bytes { λ _. ⌜ now (sheet .exit) ≡ closedBytes (closingOf (now (sheet .entry)) clock) (now (sheet .entry)) ⌝ }
+    ensures { λ r. ⌜ Closes (now (sheet .entry)) clock r (now (sheet .exit)) ⌝ }
 {
     let n = sheet.len();
     match find(&sheet[..n], clock) {
@@ -109,9 +108,7 @@ pub fn close(sheet: &mut [u8], clock: usize) -> Closing
 
 // The very part of the sheet that holds a clock's expression; an empty part of its start where that is refused.
 pub fn quote(sheet: &[u8], clock: usize) -> &[u8]
-    ensures part { λ r. ⌜ now r ≡ quotedPart (quotingOf (now (sheet .entry)) clock) (now (sheet .entry)) ⌝ }
-    ensures memory { λ r. ⌜ r .ptr .0 ≡ sheet .entry .ptr .0 ⌝ }
-    ensures from { λ r. ⌜ r .ptr .1 ≡ quotedFrom (quotingOf (now (sheet .entry)) clock) + sheet .entry .ptr .1 ⌝ }
+    ensures { λ r. ⌜ Quotes (now (sheet .entry)) clock (sheet .entry .ptr) (now r) (r .ptr) ⌝ }
 {
     match find(sheet, clock) {
         Field::Refused(_, _) => &sheet[..0],
@@ -130,7 +127,7 @@ pub struct QuoteReply {
 }
 
 pub fn quote_reply(sheet: &[u8], clock: usize) -> QuoteReply
-    ensures { λ r. ⌜ r ≡ quoteReply (quotingOf (now (sheet .entry)) clock) ⌝ }
+    ensures { λ r. ⌜ RepliesTo (now (sheet .entry)) clock r ⌝ }
 {
     match find(sheet, clock) {
         Field::Refused(number, place) => QuoteReply { number, place },

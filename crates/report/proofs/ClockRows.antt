@@ -6,14 +6,15 @@ use Prim.Native.Nat.{ℕ, zero, suc, _+_, _*_, _<_}
 use native.Mathlib.Numerals.{add-one}
 use native.Mathlib.Omega.{arith}
 use lib.IntN.{ℤ}
-use lib.ListN.{length, getD, getElem?, drop, length-append}
+use lib.ListN.{length, getD, getElem?, drop}
 use lib.Seq.{drop-cons, drop-length}
 use Rattle.envelope.specs.declared.Node.{Node}
-use Rattle.expression.specs.Table.{nodesIn, nodeAt}
+use Rattle.expression.specs.Inner.Nodes.{nodesIn, nodeAt}
 use Rattle.expression.proofs.Lookup.{none-some}
 use Rattle.expression.proofs.Tables.{node-at}
-use Rattle.report.specs.Listing.{clockLine, clockLines}
-use Rattle.report.specs.Parts.{Many}
+use Rattle.line.specs.Text.{lineOf}
+use Rattle.report.specs.Listing.{clockWord, clockFields, clockLines}
+use Rattle.report.specs.Inner.Parts.{Many}
 
 drop-entry : (xs : List Node) (i : ℕ) (x : Node) → getElem? xs i ≡ some x → drop i xs ≡ x ∷ drop (suc i) xs
 drop-entry [] i x h = none-some h
@@ -27,14 +28,11 @@ module _ (t : List ℤ) (ss : List ℕ) where
   abbrev pub clocksFrom : ℕ → List ℕ
   clocksFrom i = clockLines i (drop i ss) (drop i (nodesIn t))
 
-  pub clocks-next : Many t ss → (i : ℕ) → i < length ss → (x : Node) → x ≡ nodeAt t i → clocksFrom i ≡ clockLine i (getD ss i 0) (x .envelope) ++ clocksFrom (i + 1)
+  pub clocks-next : Many t ss → (i : ℕ) → i < length ss → (x : Node) → x ≡ nodeAt t i → clocksFrom i ≡ lineOf clockWord (clockFields i (getD ss i 0) (x .envelope)) ++ clocksFrom (i + 1)
   unfolding clockLines
   clocks-next m i h x e =
       let there : 4 * i + 3 < length t = omega (arith, m .many) in
       rw (add-one i, drop-cons ss i 0 h, drop-entry (nodesIn t) i x (node-at t i there ∙ ap some (sym e)))
-
-  pub clocks-length : Many t ss → (i : ℕ) → i < length ss → (x : Node) → x ≡ nodeAt t i → length (clocksFrom i) ≡ length (clockLine i (getD ss i 0) (x .envelope)) + length (clocksFrom (i + 1))
-  clocks-length m i h x e = ap length (clocks-next m i h x e) ∙ length-append (clockLine i (getD ss i 0) (x .envelope)) (clocksFrom (i + 1))
 
   pub clocks-none : (i : ℕ) → i ≡ length ss → clocksFrom i ≡ []
   unfolding clockLines

@@ -9,13 +9,15 @@ use Rattle.envelope.specs.Standing.{beyondOf, hasRoom}
 use Rattle.envelope.specs.Made.{declaredOf, limited, negatedOf}
 use Rattle.link.specs.Link.{earlyOf, sizeOf, verdictOf}
 use Rattle.expression.specs.Evaluate.{fieldsKept, declaredWorth}
-use Rattle.expression.specs.Reader.{node, exprAt}
+use Rattle.field.specs.Format.{run}
+use Rattle.expression.specs.Format.{parts, expression}
+use Rattle.expression.specs.Reader.{exprAt}
 use Rattle.sheet.specs.Reader.{rowsAt, sectionAt, bitsAt, wordAt, clockAt, linkAt, readFrom, readSheet}
 use Rattle.sheet.specs.Rooms.{total}
-use Rattle.line.specs.Text.{lastDigits, digits, decimal, outcomeLine}
-use Rattle.report.specs.Listing.{envelopeFields, clockLine, verdictFields, linkLine, roomLine, refusedLine, clockLines, linkLines, wholeText, listingOf}
+use Rattle.line.specs.Text.{lastDigits, digits, decimal, lineOf}
+use Rattle.report.specs.Listing.{clockLines, linkLines, wholeText, listingOf}
 use Rattle.report.specs.Figures.{given, said}
 
 pub figures : given ≡ said
-unfolding listingOf wholeText clockLines linkLines clockLine linkLine envelopeFields verdictFields roomLine refusedLine outcomeLine decimal digits lastDigits readSheet readFrom sectionAt rowsAt bitsAt wordAt clockAt linkAt exprAt node fieldIn fieldAt lowFirst signedIn signedAt signed onesIn wordOf wordBit offsets ones fieldsKept declaredWorth declaredOf negatedOf limited normalOf notOf resultOf beyondOf hasRoom gcdOf euclid verdictOf earlyOf sizeOf total
+unfolding listingOf wholeText clockLines linkLines lineOf decimal digits lastDigits readSheet readFrom sectionAt rowsAt bitsAt wordAt clockAt linkAt run expression parts exprAt fieldIn fieldAt lowFirst signedIn signedAt signed onesIn wordOf wordBit offsets ones fieldsKept declaredWorth declaredOf negatedOf limited normalOf notOf resultOf beyondOf hasRoom gcdOf euclid verdictOf earlyOf sizeOf total
 figures = refl

@@ -1,7 +1,8 @@
-pub mod Lengths
-pub mod Lines
 pub mod ClockRows
 pub mod LinkRows
 pub mod Texts
+pub mod Within
+pub mod Bound
+pub mod Table
 pub mod Promise
 pub mod Figures

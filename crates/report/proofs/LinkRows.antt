@@ -5,24 +5,23 @@ use Prim.Native.Nat.{ℕ, zero, suc, _+_, _*_, _≤_, _<_}
 use native.Mathlib.Numerals.{add-one}
 use native.Mathlib.Omega.{arith}
 use lib.IntN.{ℤ}
-use lib.ListN.{length, length-append}
+use lib.ListN.{length}
 use Rattle.field.specs.Read.{Read, Read.got, Read.refused}
 use Rattle.field.proofs.Read.{through}
 use Rattle.envelope.specs.declared.Node.{Node}
 use Rattle.link.specs.declared.Row.{Row}
 use Rattle.link.specs.Link.{sizeIn, openSizeOf}
-use Rattle.expression.specs.Table.{nodesIn, AllTaken}
+use Rattle.expression.specs.Inner.Nodes.{nodesIn, AllTaken}
 use Rattle.sheet.specs.Sheet.{Link}
 use Rattle.sheet.specs.Reader.{rowsAt, linkAt}
 use Rattle.sheet.specs.Rooms.{total, sizeOfRow}
-use Rattle.sheet.specs.Sections.{rowAt, rowsIn, linksIn, Ready}
+use Rattle.sheet.specs.Inner.Sections.{rowAt, rowsIn, linksIn, Ready}
 use Rattle.sheet.proofs.LinkRows.{link-anywhere, row-small, open-most}
-use Rattle.line.specs.Text.{Put}
+use Rattle.line.specs.Text.{outOf, put, putLine, lineOf}
+use Rattle.line.proofs.Puts.{put-more}
 use Rattle.report.specs.declared.Linked.{Linked}
-use Rattle.report.specs.declared.Measured.{Measured}
-use Rattle.report.specs.Listing.{linkLine, linkLines}
-use Rattle.report.specs.Parts.{Next, rowsThere, measuredOf}
-use Rattle.report.proofs.Lines.{Filled, filled-none, filled-more, filled-all}
+use Rattle.report.specs.Listing.{linkWord, linkFields, linkLines}
+use Rattle.report.specs.Inner.Parts.{Next, rowsThere, LinksPut}
 
 -- ---- the row of the link at a cursor, by what was read there
 module _ (xs : List Node) (ss : List ℕ) (X : Read Link) (r : Linked) where
@@ -102,85 +101,58 @@ module _ (s : List ℕ) (t : List ℤ) (ss : List ℕ) (n : ℕ) where
       go [] k = refl
       go (l ∷ ls) k = absurd (omega arith)
 
-  -- ---- the lines, one after another
-  lines-next : (i : ℕ) (r : Row) (rs qs : List Row) → qs ≡ r ∷ rs → linkLines i qs ≡ linkLine i r ++ linkLines (i + 1) rs
+  -- ---- the lines, one after another, and the sums
+  lines-next : (i : ℕ) (r : Row) (rs qs : List Row) → qs ≡ r ∷ rs → linkLines i qs ≡ lineOf linkWord (linkFields i r) ++ linkLines (i + 1) rs
   unfolding linkLines
   lines-next i r rs qs e = rw (e, add-one)
 
-  pub lines-length : (i : ℕ) (r : Row) (rs qs : List Row) → qs ≡ r ∷ rs → length (linkLines i qs) ≡ length (linkLine i r) + length (linkLines (i + 1) rs)
-  lines-length i r rs qs e = ap length (lines-next i r rs qs e) ∙ length-append (linkLine i r) (linkLines (i + 1) rs)
-
-  lines-none : (i : ℕ) (qs : List Row) → qs ≡ [] → linkLines i qs ≡ []
-  unfolding linkLines
-  lines-none i qs e = rw e
-
   module _ (a₀ : ℕ) where
-    -- i lines are put
-    pub record Lined (xs : List ℕ) (place i a : ℕ) (ys : List ℕ) (at : ℕ) : Type 0 where
+    abbrev all : List Row
+    all = rowsThere s t ss n a₀
+
+    -- i links are done: what is left, put from here, gives what all gives
+    pub record Going (xs : List ℕ) (place i a : ℕ) (ys : List ℕ) (at opened whole : ℕ) : Type 0 where
       pub left : Left s ss n i a
-      pub filled : Filled xs place (linkLines 0 (rowsThere s t ss n a₀)) ys at (linkLines i (leftRows left))
-
-    pub lined-none : (xs : List ℕ) (place : ℕ) {room : ℕ} → Ready s t ss n room a₀ → Lined xs place 0 a₀ xs place
-    lined-none xs place r =
-        record {
-          left = left-first r;
-          filled = subst (λ (rs : List Row). Filled xs place (linkLines 0 (rowsThere s t ss n a₀)) xs place (linkLines 0 rs)) (left-all r) (filled-none xs place _);
-        }
-
-    module _ {xs : List ℕ} {place i a : ℕ} {ys : List ℕ} {at : ℕ} (h : Lined xs place i a ys at) where
-      pub lined-more : (r : Linked) (d : Stepped (h .left) r) {zs : List ℕ} {b : ℕ} → Put ys at (linkLine i (r .row)) zs b → Lined xs place (i + 1) (r .next .at) zs b
-      lined-more r d p =
-          record { left = d .rest; filled = filled-more (h .filled) (lines-next i (r .row) (leftRows (d .rest)) _ (d .rows)) p }
-
-      pub lined-all : i ≡ n → Put xs place (linkLines 0 (rowsThere s t ss n a₀)) ys at
-      lined-all e = filled-all (h .filled) (lines-none i _ (left-none (h .left) e))
-
-    -- ---- what i links come to: the bytes of their lines, and their sizes
-    pub record Summed (i a bytes opened whole : ℕ) : Type 0 where
-      pub left : Left s ss n i a
-      pub bytes-are : length (linkLines 0 (rowsThere s t ss n a₀)) ≡ bytes + length (linkLines i (leftRows left))
-      pub open-is : total (map openSizeOf (rowsThere s t ss n a₀)) ≡ opened + total (map openSizeOf (leftRows left))
-      pub whole-is : total (map sizeOfRow (rowsThere s t ss n a₀)) ≡ whole + total (map sizeOfRow (leftRows left))
-      pub bytes-few : bytes ≤ 128 * i
+      pub lines : put (outOf ys at) (linkLines i (leftRows left)) ≡ put (outOf xs place) (linkLines 0 all)
+      pub open-is : total (map openSizeOf all) ≡ opened + total (map openSizeOf (leftRows left))
+      pub whole-is : total (map sizeOfRow all) ≡ whole + total (map sizeOfRow (leftRows left))
       pub open-few : opened ≤ 3000000000 * i
       pub whole-few : whole ≤ 3000000000 * i
 
-    pub summed-none : {room : ℕ} → Ready s t ss n room a₀ → Summed 0 a₀ 0 0 0
-    summed-none r =
+    pub going-none : (xs : List ℕ) (place : ℕ) {room : ℕ} → Ready s t ss n room a₀ → Going xs place 0 a₀ xs place 0 0
+    going-none xs place r =
         record {
           left = left-first r;
-          bytes-are = omega (arith, ap (λ (rs : List Row). length (linkLines 0 rs)) (left-all r));
+          lines = ap (λ (rs : List Row). put (outOf xs place) (linkLines 0 rs)) (sym (left-all r));
           open-is = omega (arith, ap (λ (rs : List Row). total (map openSizeOf rs)) (left-all r));
           whole-is = omega (arith, ap (λ (rs : List Row). total (map sizeOfRow rs)) (left-all r));
-          bytes-few = omega arith;
           open-few = omega arith;
           whole-few = omega arith;
         }
 
-    module _ {i a bytes opened whole : ℕ} (h : Summed i a bytes opened whole) where
-      pub summed-more : (r : Linked) (d : Stepped (h .left) r) → AllTaken (nodesIn t) → (x y z : ℕ) → x ≡ length (linkLine i (r .row)) → x ≤ 128 → y ≡ openSizeOf (r .row) → z ≡ sizeIn (r .row .verdict)
-          → Summed (i + 1) (r .next .at) (bytes + x) (opened + y) (whole + z)
+    module _ {xs : List ℕ} {place i a : ℕ} {ys : List ℕ} {at opened whole : ℕ} (h : Going xs place i a ys at opened whole) where
+      pub going-more : (r : Linked) (d : Stepped (h .left) r) → AllTaken (nodesIn t) → (zs : List ℕ) (b y z : ℕ) → outOf zs b ≡ putLine (outOf ys at) linkWord (linkFields i (r .row)) → y ≡ openSizeOf (r .row) → z ≡ sizeIn (r .row .verdict)
+          → Going xs place (i + 1) (r .next .at) zs b (opened + y) (whole + z)
       unfolding total
-      summed-more r d taken x y z p few q w =
+      going-more r d taken zs b y z p q w =
           let small = stepped-small (h .left) r d taken in
-          let lines = lines-length i (r .row) (leftRows (d .rest)) _ (d .rows) in
           let opens = ap (λ (rs : List Row). total (map openSizeOf rs)) (d .rows) in
           let wholes = ap (λ (rs : List Row). total (map sizeOfRow rs)) (d .rows) in
           record {
             left = d .rest;
-            bytes-are = omega (arith, h .bytes-are, lines, p);
+            lines = put-more (outOf ys at) (outOf zs b) linkWord (linkFields i (r .row)) _ _ (lines-next i (r .row) (leftRows (d .rest)) _ (d .rows)) p ∙ h .lines;
             open-is = omega (arith, h .open-is, opens, q);
             whole-is = omega (arith, h .whole-is, wholes, w);
-            bytes-few = omega (arith, h .bytes-few, few);
             open-few = omega (arith, h .open-few, small, q, open-most (r .row));
             whole-few = omega (arith, h .whole-few, small, w);
           }
 
-      pub summed-all : i ≡ n → _≡_ {A = Measured} (record { bytes = bytes; opened = opened; whole = whole }) (measuredOf (rowsThere s t ss n a₀))
-      unfolding total linkLines
-      summed-all e =
+      pub going-all : i ≡ n → LinksPut xs place all ys (record { past = at; opened = opened; whole = whole })
+      unfolding total linkLines put
+      going-all e =
           let none = left-none (h .left) e in
-          let p : bytes ≡ length (linkLines 0 (rowsThere s t ss n a₀)) = omega (arith, h .bytes-are, ap (λ (rs : List Row). length (linkLines i rs)) none) in
-          let q : opened ≡ total (map openSizeOf (rowsThere s t ss n a₀)) = omega (arith, h .open-is, ap (λ (rs : List Row). total (map openSizeOf rs)) none) in
-          let w : whole ≡ total (map sizeOfRow (rowsThere s t ss n a₀)) = omega (arith, h .whole-is, ap (λ (rs : List Row). total (map sizeOfRow rs)) none) in
-          λ j. record { bytes = p j; opened = q j; whole = w j }
+          record {
+            lines = ap (λ (rs : List Row). put (outOf ys at) (linkLines i rs)) (sym none) ∙ h .lines;
+            open-is = omega (arith, h .open-is, ap (λ (rs : List Row). total (map openSizeOf rs)) none);
+            whole-is = omega (arith, h .whole-is, ap (λ (rs : List Row). total (map sizeOfRow rs)) none);
+          }

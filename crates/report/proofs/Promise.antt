@@ -1,5 +1,5 @@
 -- The promises on the listing are kept. Assumes nothing.
-use mathlib.Core.Path.{_≡_, refl, sym, ap, _∙_}
+use mathlib.Core.Path.{_≡_, refl, ap, _∙_}
 use mathlib.Core.List.{List, [], _∷_}
 use Prim.Native.Nat.{ℕ, _*_}
 use native.Mathlib.Omega.{arith}
@@ -8,17 +8,18 @@ use lib.IntN.{ℤ}
 use lib.ListN.{length, length-map}
 use lib.Seq.{take-at}
 use Rattle.reply.specs.Numbers.{shortResult}
-use Rattle.field.specs.Read.{Read.got}
+use Rattle.field.specs.Read.{Read.got, Read.refused}
 use Rattle.field.proofs.Read.{through, pick-left}
 use Rattle.link.specs.declared.Row.{Row}
 use Rattle.expression.specs.Table.{flats}
 use Rattle.expression.proofs.Tables.{flats-length}
-use Rattle.sheet.specs.Reader.{Opened, readSheet}
+use Rattle.sheet.specs.Reader.{readSheet}
+use Rattle.sheet.specs.Opened.{Opened}
 use Rattle.sheet.specs.Rooms.{rowOf, rowsOf, openRoom, wholeRoom}
 use Rattle.sheet.specs.WorkOut.{workedOf, flatRows}
-use Rattle.report.specs.Listing.{wholeText, textOf, listingOf}
-use Rattle.report.specs.Promise.{sheetLines, Shows, Listing, NoSecondReply}
-use Rattle.report.proofs.Texts.{listing-refused}
+use Rattle.report.specs.Listing.{refusedLine, wholeText, textOf, listingOf}
+use Rattle.report.proofs.Bound.{listing-most}
+use Rattle.report.specs.Promise.{sheetLines, Shows, Listing}
 
 rows-length : (rs : List Row) → length (flatRows rs) ≡ 3 * length rs
 unfolding flatRows
@@ -49,13 +50,15 @@ module _ (s : List ℕ) where
             (rows-length (rowsOf o) ∙ ap (λ (n : ℕ). 3 * n) (length-map (o .sheet .links) (rowOf o)));
       }
 
+  refused-only : (number place : ℕ) → readSheet s ≡ refused number place → listingOf s ≡ refusedLine number place
+  unfolding listingOf
+  refused-only number place e = ap textOf e
+
   pub listing : Listing s
   listing =
       record {
         accepted = accepted;
         worked-out = λ clocks links o c h. rw h (shows clocks links o c (was-read (length clocks) (length links) o c h));
-        refused-only = λ number place e. sym (listing-refused s number place e);
+        most = listing-most s;
+        refused-only = refused-only;
       }
-
-pub no-second-reply : NoSecondReply
-no-second-reply s text r q t u a b = (a .answer-is ∙ sym (b .answer-is), a .text-is ∙ sym (b .text-is))

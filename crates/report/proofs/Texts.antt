@@ -1,69 +1,71 @@
 -- The texts: what is answered and left where one fits the buffer and where it doesn't, and that the parts make up the listing. Assumes nothing.
-use mathlib.Core.Path.{_≡_, refl, sym, ap, subst}
-use mathlib.Core.List.{List, map}
-use Prim.Native.Nat.{ℕ, _+_, _*_, _≤_, _<_}
+use mathlib.Core.Path.{_≡_, refl, ap, _∙_}
+use mathlib.Core.List.{List, []}
+use Prim.Native.Nat.{ℕ, _*_, _≤_, _<_, min}
 use native.Mathlib.Omega.{arith}
 use lib.IntN.{ℤ}
-use lib.ListN.{length, length-append, take}
+use lib.ListN.{length, take}
 use borrow.Author.Tests.{le-leb, lt-leb}
 use Rattle.field.specs.Read.{Read.got, Read.refused}
 use Rattle.field.specs.Spelling.{AllBytes}
 use Rattle.envelope.specs.declared.Node.{Node}
 use Rattle.link.specs.declared.Row.{Row}
-use Rattle.link.specs.Link.{openSizeOf}
-use Rattle.expression.specs.Table.{nodesIn}
+use Rattle.expression.specs.Inner.Nodes.{nodesIn}
 use Rattle.sheet.specs.declared.Found.{Found}
-use Rattle.sheet.specs.Reader.{Opened, readSheet}
-use Rattle.sheet.specs.Rooms.{total, sizeOfRow}
-use Rattle.sheet.specs.Sections.{foundOf, Tabled}
+use Rattle.sheet.specs.Reader.{readSheet}
+use Rattle.sheet.specs.Opened.{Opened}
+use Rattle.sheet.specs.Inner.Sections.{foundOf, Tabled}
 use Rattle.sheet.proofs.Outcome.{rows-are, there, table-is, states}
-use Rattle.line.specs.Text.{Put}
-use Rattle.line.proofs.Puts.{puts, put-as}
+use Rattle.line.specs.Text.{Out, outOf, top, putLine, Put}
+use Rattle.line.proofs.Puts.{put-then, put-line, put-at, put-fits}
 use Rattle.report.specs.declared.Listed.{Listed}
-use Rattle.report.specs.declared.Measured.{Measured}
-use Rattle.report.specs.Listing.{roomLine, refusedLine, clockLines, linkLines, wholeText, textOf, listingOf, fitted, over, listedOf, textAfter}
-use Rattle.report.specs.Parts.{rowsThere, measuredOf}
+use Rattle.report.specs.declared.Summed.{Summed}
+use Rattle.report.specs.Listing.{roomWord, roomFields, clockLines, wholeText, sheetText, fitted, over, listedOf, textAfter, ListsInto}
+use Rattle.report.specs.Inner.Parts.{rowsThere, LinksPut}
 
-module _ (t text : List ℕ) (need : ℕ) (e : need ≡ length t) where
+-- `need` is what an empty buffer measured
+module _ (t text : List ℕ) (fits : length text < top) (xs : List ℕ) (need : ℕ) (m : Put [] 0 t xs need) where
+  need-is : need ≡ min (length t) top
+  need-is = put-at [] xs t 0 need (omega arith) m ∙ omega arith
+
   pub text-short : length text < need → (Listed.Short ≡ fitted t (length text)) × (text ≡ over t text)
   text-short h =
-      let less : length text < length t = omega arith in
+      let less : length text < length t = omega (arith, need-is) in
       rw (lt-leb (length t) (length text) less) (refl, refl)
 
   pub text-fits : need ≤ length text → (text′ : List ℕ) (r : ℕ) → Put text 0 t text′ r → (Listed.Text need ≡ fitted t (length text)) × (text′ ≡ over t text)
   text-fits h text′ r p =
-      let most : length t ≤ length text = omega arith in
-      rw (le-leb (length t) (length text) most) (ap Listed.Text e, p .bytes)
+      let most : length t ≤ length text = omega (arith, need-is) in
+      let is : need ≡ length t = omega (arith, need-is) in
+      rw (le-leb (length t) (length text) most)
+      (ap Listed.Text is, ap (λ (o : Out). o .bytes) p ∙ put-fits text 0 t (omega arith) (omega arith))
 
 -- ---- the text of a whole sheet, part by part
-module _ (ss : List ℕ) (xs : List Node) (rs : List Row) (m : Measured) (m-is : m ≡ measuredOf rs) where
-  room-is : roomLine (m .opened) (m .whole) ≡ roomLine (total (map openSizeOf rs)) (total (map sizeOfRow rs))
-  room-is = ap (λ (k : Measured). roomLine (k .opened) (k .whole)) m-is
-
-  pub whole-length : (x y : ℕ) → x ≡ length (clockLines 0 ss xs) → y ≡ length (roomLine (m .opened) (m .whole)) → x + m .bytes + y ≡ length (wholeText ss xs rs)
-  unfolding wholeText
-  whole-length x y p q =
-      let links : m .bytes ≡ length (linkLines 0 rs) = ap (λ (k : Measured). k .bytes) m-is in
-      simp length-append (omega (arith, ap length room-is))
-
-  pub whole-put : {t t₁ t₂ t₃ : List ℕ} {a b c d : ℕ} → Put t a (clockLines 0 ss xs) t₁ b → Put t₁ b (linkLines 0 rs) t₂ c → Put t₂ c (roomLine (m .opened) (m .whole)) t₃ d
-      → Put t a (wholeText ss xs rs) t₃ d
-  unfolding wholeText
-  whole-put p q r = puts p (puts q (put-as room-is r))
+pub whole-put : (ss : List ℕ) (xs : List Node) (rs : List Row) (t t₁ t₂ t₃ : List ℕ) (a b d : ℕ) (m : Summed) → Put t a (clockLines 0 ss xs) t₁ b → LinksPut t₁ b rs t₂ m
+    → outOf t₃ d ≡ putLine (outOf t₂ (m .past)) roomWord (roomFields (m .opened) (m .whole))
+    → Put t a (wholeText ss xs rs) t₃ d
+unfolding wholeText
+whole-put ss xs rs t t₁ t₂ t₃ a b d m p q r =
+    rw (put-then, ← p, put-then, ← q .lines, ← put-line, ← q .open-is, ← q .whole-is) r
 
 -- ---- the listing, by what the reader of a whole sheet answered and left
-module _ (s : List ℕ) where
-  pub listing-refused : (number place : ℕ) → readSheet s ≡ refused number place → refusedLine number place ≡ listingOf s
-  unfolding listingOf
-  listing-refused number place e = sym (ap textOf e)
+module _ (s text : List ℕ) where
+  pub listed-refused : (number place : ℕ) → readSheet s ≡ refused number place → ListsInto s text (Listed.Refused number place) text
+  unfolding listedOf textAfter
+  listed-refused number place e = record { answer-is = rw e; text-is = rw e }
 
   module _ (bytes : AllBytes s) (o : Opened) (c : ℕ) (read : readSheet s ≡ got o c) (f : Found) (f-is : foundOf o ≡ f) (t : List ℤ) (ss : List ℕ) (tabled : Tabled (readSheet s) t ss) where
-    pub listing-whole : wholeText (take (f .clocks) ss) (nodesIn (take (4 * f .clocks) t)) (rowsThere s (take (4 * f .clocks) t) (take (f .clocks) ss) (f .links) (f .linkrows)) ≡ listingOf s
-    unfolding listingOf
-    listing-whole =
-        rw (there s bytes o c read f f-is t ss tabled, table-is s bytes o c read f f-is t ss tabled, states s bytes o c read f f-is t ss tabled, rows-are o (o .sheet .links), read)
+    abbrev readText : List ℕ
+    readText = wholeText (take (f .clocks) ss) (nodesIn (take (4 * f .clocks) t)) (rowsThere s (take (4 * f .clocks) t) (take (f .clocks) ss) (f .links) (f .linkrows))
 
-  -- what is answered and left for that text is so for the sheet
-  pub listed : (x text text′ : List ℕ) (r : Listed) → x ≡ listingOf s → (r ≡ fitted x (length text)) × (text′ ≡ over x text) → (r ≡ listedOf s (length text)) × (text′ ≡ textAfter s text)
-  unfolding listedOf textAfter
-  listed x text text′ r e h = subst (λ (x : List ℕ). (r ≡ fitted x (length text)) × (text′ ≡ over x text)) e h
+    text-is : readText ≡ sheetText o
+    text-is =
+        rw (there s bytes o c read f f-is t ss tabled, table-is s bytes o c read f f-is t ss tabled, states s bytes o c read f f-is t ss tabled, rows-are o (o .sheet .links))
+
+    pub listed-whole : (text′ : List ℕ) (r : Listed) → (r ≡ fitted readText (length text)) × (text′ ≡ over readText text) → ListsInto s text r text′
+    unfolding listedOf textAfter
+    listed-whole text′ r h =
+        record {
+          answer-is = rw read (h .0 ∙ ap (λ (x : List ℕ). fitted x (length text)) text-is);
+          text-is = rw read (h .1 ∙ ap (λ (x : List ℕ). over x text) text-is);
+        }

@@ -1,4 +1,5 @@
 pub mod Listing
-pub mod Parts
+pub mod Table
 pub mod Promise
 pub mod Figures
+pub mod Inner

@@ -1,4 +1,5 @@
 -- "The listing program": the text of a sheet, field by field, and what `list` answers and writes.
+use mathlib.Core.Path.{_≡_}
 use mathlib.Core.List.{List, [], _∷_, _++_, map}
 use Prim.Native.Nat.{ℕ, suc}
 use lib.Dec.{leb, eqb}
@@ -12,10 +13,11 @@ use Rattle.link.specs.declared.Verdict.{Verdict}
 use Rattle.link.specs.declared.Verdict.the-variants.{Accepted, Rates, Early}
 use Rattle.link.specs.declared.Row.{Row}
 use Rattle.link.specs.Link.{sizeIn, openSizeOf}
-use Rattle.sheet.specs.Reader.{Opened, readSheet}
+use Rattle.sheet.specs.Reader.{readSheet}
+use Rattle.sheet.specs.Opened.{Opened}
 use Rattle.sheet.specs.Rooms.{rowsOf, total, sizeOfRow}
-use Rattle.sheet.specs.Sections.{stateOfClock}
-use Rattle.line.specs.Text.{digits, decimal, field, lineFeed, outcomeLine}
+use Rattle.sheet.specs.Rooms.{stateOfClock}
+use Rattle.line.specs.Text.{digits, decimal, lineOf, outcomeFields}
 use Rattle.report.specs.declared.Listed.{Listed}
 
 -- clock
@@ -34,10 +36,17 @@ roomWord = 114 ∷ 111 ∷ 111 ∷ 109 ∷ []
 abbrev pub refusedWord : List ℕ
 refusedWord = 114 ∷ 101 ∷ 102 ∷ 117 ∷ 115 ∷ 101 ∷ 100 ∷ []
 
+-- open
+abbrev pub openWord : List ℕ
+openWord = 111 ∷ 112 ∷ 101 ∷ 110 ∷ []
+
+-- closed
+abbrev pub closedWord : List ℕ
+closedWord = 99 ∷ 108 ∷ 111 ∷ 115 ∷ 101 ∷ 100 ∷ []
+
 -- closed, where the state is 1, else open
 abbrev pub stateWord : ℕ → List ℕ
-stateWord state =
-    pick (eqb state 1) (99 ∷ 108 ∷ 111 ∷ 115 ∷ 101 ∷ 100 ∷ []) (111 ∷ 112 ∷ 101 ∷ 110 ∷ [])
+stateWord state = pick (eqb state 1) closedWord openWord
 
 -- accepted, rates, early
 abbrev pub verdictWord : Verdict → List ℕ
@@ -45,55 +54,56 @@ verdictWord (Accepted size) = 97 ∷ 99 ∷ 99 ∷ 101 ∷ 112 ∷ 116 ∷ 101 �
 verdictWord Rates = 114 ∷ 97 ∷ 116 ∷ 101 ∷ 115 ∷ []
 verdictWord Early = 101 ∷ 97 ∷ 114 ∷ 108 ∷ 121 ∷ []
 
-abbrev pub ended : List ℕ
-ended = lineFeed ∷ []
-
 -- "k, K, l, n"
-unfoldable pub envelopeFields : Envelope → List ℕ
-envelopeFields e = field (decimal (e .k)) ++ (field (decimal (e .K)) ++ (field (digits (e .l)) ++ field (digits (e .n))))
+abbrev pub envelopeFields : Envelope → List (List ℕ)
+envelopeFields e = decimal (e .k) ∷ decimal (e .K) ∷ digits (e .l) ∷ digits (e .n) ∷ []
 
 -- "Fields: clock, index, state, k, K, l, n"
-unfoldable pub clockLine : ℕ → ℕ → Envelope → List ℕ
-clockLine i state e = clockWord ++ (field (digits i) ++ (field (stateWord state) ++ (envelopeFields e ++ ended)))
-
--- "verdict, size"
-unfoldable pub verdictFields : Verdict → List ℕ
-verdictFields v = field (verdictWord v) ++ field (digits (sizeIn v))
+abbrev pub clockFields : ℕ → ℕ → Envelope → List (List ℕ)
+clockFields i state e = digits i ∷ stateWord state ∷ envelopeFields e
 
 -- "link, index, producer, consumer, state, verdict, size"
-unfoldable pub linkLine : ℕ → Row → List ℕ
-linkLine i r =
-    linkWord ++ (field (digits i) ++ (field (digits (r .producer)) ++ (field (digits (r .consumer)) ++ (field (stateWord (r .state)) ++ (verdictFields (r .verdict) ++ ended)))))
+abbrev pub linkFields : ℕ → Row → List (List ℕ)
+linkFields i r =
+    digits i ∷ digits (r .producer) ∷ digits (r .consumer) ∷ stateWord (r .state) ∷ verdictWord (r .verdict) ∷ digits (sizeIn (r .verdict)) ∷ []
 
 -- "room, open, whole"
-unfoldable pub roomLine : ℕ → ℕ → List ℕ
-roomLine opened whole = roomWord ++ (field (digits opened) ++ (field (digits whole) ++ ended))
+abbrev pub roomFields : ℕ → ℕ → List (List ℕ)
+roomFields opened whole = digits opened ∷ digits whole ∷ []
 
 -- "A refusal prints only `refused NUMBER at PLACE`."
-unfoldable pub refusedLine : ℕ → ℕ → List ℕ
-refusedLine number place = outcomeLine refusedWord number place
+abbrev pub refusedLine : ℕ → ℕ → List ℕ
+refusedLine number place = lineOf refusedWord (outcomeFields number place)
 
 -- a line for each clock, from its state and its node; the first has index i
 unfoldable pub clockLines : ℕ → List ℕ → List Node → List ℕ
 clockLines i [] xs = []
 clockLines i (state ∷ ss) [] = []
-clockLines i (state ∷ ss) (x ∷ xs) = clockLine i state (x .envelope) ++ clockLines (suc i) ss xs
+clockLines i (state ∷ ss) (x ∷ xs) = lineOf clockWord (clockFields i state (x .envelope)) ++ clockLines (suc i) ss xs
 
 -- a line for each link, from its row; the first has index i
 unfoldable pub linkLines : ℕ → List Row → List ℕ
 linkLines i [] = []
-linkLines i (r ∷ rs) = linkLine i r ++ linkLines (suc i) rs
+linkLines i (r ∷ rs) = lineOf linkWord (linkFields i r) ++ linkLines (suc i) rs
 
 -- the clocks' lines, the links' lines, and the room line with both sums over the links
 unfoldable pub wholeText : List ℕ → List Node → List Row → List ℕ
 wholeText ss xs rs =
-    clockLines 0 ss xs ++ (linkLines 0 rs ++ roomLine (total (map openSizeOf rs)) (total (map sizeOfRow rs)))
+    clockLines 0 ss xs ++ (linkLines 0 rs ++ lineOf roomWord (roomFields (total (map openSizeOf rs)) (total (map sizeOfRow rs))))
+
+-- the listing of a sheet that was read
+abbrev pub sheetText : Opened → List ℕ
+sheetText o = wholeText (map stateOfClock (o .sheet .clocks)) (o .table) (rowsOf o)
+
+-- 128 clock lines of 56 bytes, 256 link lines of 44 and a room line of 31: no listing is longer
+abbrev pub listingMost : ℕ
+listingMost = 18_463
 
 abbrev pub textOf : Read Opened → List ℕ
-textOf (got o c) = wholeText (map stateOfClock (o .sheet .clocks)) (o .table) (rowsOf o)
+textOf (got o c) = sheetText o
 textOf (refused number place) = refusedLine number place
 
--- the listing of any bytes
+-- what is printed of any bytes
 unfoldable pub listingOf : List ℕ → List ℕ
 listingOf s = textOf (readSheet s)
 
@@ -105,13 +115,34 @@ fitted t room = pick (leb (length t) room) (Listed.Text (length t)) Listed.Short
 abbrev pub over : List ℕ → List ℕ → List ℕ
 over t text = pick (leb (length t) (length text)) (sets text 0 t) text
 
+-- a refused sheet's number and place go straight back, and nothing is written
+abbrev pub listedIn : Read Opened → ℕ → Listed
+listedIn (got o c) room = fitted (sheetText o) room
+listedIn (refused number place) room = Listed.Refused number place
+
+abbrev pub textIn : Read Opened → List ℕ → List ℕ
+textIn (got o c) text = over (sheetText o) text
+textIn (refused number place) text = text
+
 unfoldable pub listedOf : List ℕ → ℕ → Listed
-listedOf s room = fitted (listingOf s) room
+listedOf s room = listedIn (readSheet s) room
 
 unfoldable pub textAfter : List ℕ → List ℕ → List ℕ
-textAfter s text = over (listingOf s) text
+textAfter s text = textIn (readSheet s) text
 
 -- the number of the reply: a buffer that is too short is a lent result slice that is too short
 abbrev pub numberOf : Listed → ℕ
 numberOf (Listed.Text length) = 0
 numberOf Listed.Short = shortResult
+numberOf (Listed.Refused number place) = number
+
+-- and its place
+abbrev pub placeOf : Listed → ℕ
+placeOf (Listed.Text length) = 0
+placeOf Listed.Short = 0
+placeOf (Listed.Refused number place) = place
+
+-- the contract of `list`: its answer, and what the lent buffer holds at the end
+pub record ListsInto (s text : List ℕ) (answer : Listed) (text-end : List ℕ) : Type 0 where
+  pub answer-is : answer ≡ listedOf s (length text)
+  pub text-is : text-end ≡ textAfter s text

@@ -1,22 +1,24 @@
 -- What is proved of the listing, one field for each promise: of a text s of bytes.
 use mathlib.Core.Path.{_≡_}
 use mathlib.Core.List.{List, _++_, map}
-use Prim.Native.Nat.{ℕ, _*_}
+use Prim.Native.Nat.{ℕ, _*_, _≤_}
 use lib.IntN.{ℤ}
 use lib.ListN.{length, take}
 use Rattle.field.specs.Read.{Read, Read.got, Read.refused}
+use Rattle.field.specs.Spelling.{AllBytes}
 use Rattle.expression.specs.Table.{flats}
-use Rattle.sheet.specs.Reader.{Opened, readSheet}
+use Rattle.sheet.specs.Reader.{readSheet}
+use Rattle.sheet.specs.Opened.{Opened}
 use Rattle.sheet.specs.Rooms.{rowsOf, openRoom, wholeRoom}
-use Rattle.sheet.specs.Sections.{stateOfClock}
+use Rattle.sheet.specs.Rooms.{stateOfClock}
 use Rattle.sheet.specs.WorkOut.{workedOf, replyOf, flatRows, clocksOut, linksOut}
-use Rattle.report.specs.declared.Listed.{Listed}
-use Rattle.report.specs.Listing.{roomLine, refusedLine, clockLines, linkLines, listingOf, listedOf, textAfter}
+use Rattle.line.specs.Text.{lineOf}
+use Rattle.report.specs.Listing.{roomWord, roomFields, refusedLine, clockLines, linkLines, sheetText, listingMost, listingOf}
 
 -- a line for each clock, a line for each link, and the room line
 abbrev pub sheetLines : Opened → ℕ → ℕ → List ℕ
 sheetLines o opened whole =
-    clockLines 0 (map stateOfClock (o .sheet .clocks)) (o .table) ++ (linkLines 0 (rowsOf o) ++ roomLine opened whole)
+    clockLines 0 (map stateOfClock (o .sheet .clocks)) (o .table) ++ (linkLines 0 (rowsOf o) ++ lineOf roomWord (roomFields opened whole))
 
 -- the listing shows what working the sheet out gives: w, with the slices `clocks` and `links` lent
 pub record Shows (s : List ℕ) (o : Opened) (w : Read Opened) (clocks links : List ℤ) : Type 0 where
@@ -33,14 +35,7 @@ pub record Listing (s : List ℕ) : Type 0 where
   -- and with the numbers that working it out gives
   pub worked-out : (clocks links : List ℤ) (o : Opened) (c : ℕ) → workedOf s (length clocks) (length links) ≡ got o c
       → Shows s o (workedOf s (length clocks) (length links)) clocks links
+  -- a buffer of so many bytes has room for any
+  pub most : AllBytes s → (o : Opened) (c : ℕ) → readSheet s ≡ got o c → length (sheetText o) ≤ listingMost
   -- "A refusal prints only `refused NUMBER at PLACE`."
   pub refused-only : (number place : ℕ) → readSheet s ≡ refused number place → listingOf s ≡ refusedLine number place
-
--- what `list` promises: its answer, and what the lent buffer holds at the end
-pub record ListsInto (s text : List ℕ) (answer : Listed) (text-end : List ℕ) : Type 0 where
-  pub answer-is : answer ≡ listedOf s (length text)
-  pub text-is : text-end ≡ textAfter s text
-
--- it decides the answer and every byte of the buffer: no second reply satisfies it
-abbrev pub NoSecondReply : Type 0
-NoSecondReply = (s text : List ℕ) (r q : Listed) (t u : List ℕ) → ListsInto s text r t → ListsInto s text q u → (r ≡ q) × (t ≡ u)

@@ -20,7 +20,7 @@ use Rattle.envelope.specs.Stream.{value}
 use Rattle.envelope.specs.Word.{onesIn, wordOf}
 use Rattle.envelope.specs.Made.{nodeOf}
 use Rattle.sheet.specs.Reader.{bitsAt}
-use Rattle.sheet.specs.Sections.{wordBits}
+use Rattle.sheet.specs.Inner.Sections.{wordBits}
 use Rattle.sheet.proofs.Words.{bits-reads}
 use Rattle.sheet.proofs.Readings.{mapped-got, mapped-refused}
 

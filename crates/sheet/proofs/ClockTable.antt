@@ -16,11 +16,14 @@ use Rattle.field.proofs.Read.{refused-got, through}
 use Rattle.envelope.specs.declared.Node.{Node}
 use Rattle.envelope.specs.Envelope.{Taken}
 use Rattle.expression.specs.Expression.{depthMost}
-use Rattle.expression.specs.Reader.{Valued, exprAt, nodeIn}
-use Rattle.expression.specs.Table.{flat, nodesIn, Holds}
+use Rattle.expression.specs.Reader.{exprAt, nodeIn}
+use Rattle.expression.specs.Format.{Valued}
+use Rattle.expression.specs.Table.{flat}
+use Rattle.expression.specs.Inner.Nodes.{nodesIn, Holds}
 use Rattle.expression.proofs.Answers.{answer, answer-taken}
-use Rattle.sheet.specs.Reader.{rowsAt, ClockNode, nodeOfClock, clockAt}
-use Rattle.sheet.specs.Sections.{Mark, markedAt, stateOfRow, ClockRows}
+use Rattle.sheet.specs.Reader.{rowsAt, clockAt}
+use Rattle.sheet.specs.Opened.{ClockNode, nodeOfClock}
+use Rattle.sheet.specs.Inner.Sections.{Mark, markedAt, stateOfRow, ClockRows}
 use Rattle.sheet.proofs.Readings.{mapped-got, mapped-refused, reached-none, reached-more, reached-refused, reached-all}
 use Rattle.sheet.proofs.NodeTables.{map-more, Stored, stored-none, stored-more, stored-nodes, Left}
 

@@ -5,13 +5,13 @@ use mathlib.Core.Logic.{_⊎_, inl, inr, _≢_}
 use mathlib.Core.List.{List, [], _∷_, _++_, map}
 use Prim.Native.Nat.{ℕ, suc, _+_, _-_, _*_, _≤_, _<_}
 use native.Mathlib.Omega.{arith}
-use lib.Dec.{leb, eqb}
+use lib.Dec.{leb}
 use lib.ListN.{length, length-map, length-append}
-use borrow.Author.Tests.{leb-true, leb-false, lt-leb, eqb-true, eqb-false, ne-eqb}
+use borrow.Author.Tests.{lt-leb, ne-eqb}
 use Rattle.reply.specs.Numbers.{missing, beyond, trailing, shortResult}
 use Rattle.field.specs.Read.{Read, Read.got, Read.refused, pick}
-use Rattle.field.specs.Spelling.{bytesOf, AllBytes, Bytes}
-use Rattle.field.proofs.Read.{refused-got}
+use Rattle.field.specs.Spelling.{bytesOf, Bytes}
+use Rattle.field.specs.Format.{Begins}
 use Rattle.field.proofs.Spelling.{end, split, itself, bytesOf-length}
 use Rattle.envelope.specs.declared.Node.{Node}
 use Rattle.expression.specs.Expression.{Word, Clock, spellWord, spellClock}
@@ -19,47 +19,28 @@ use Rattle.expression.specs.Evaluate.{Worth.fault, evaluate, wordNode, wordNode
 use Rattle.expression.specs.Spelled.{indexes, InRange}
 use Rattle.expression.specs.Blame.{blame}
 use Rattle.sheet.specs.Sheet.{Sheet, wordsMost, clocksMost, bytesMost, rows, section, spellSheet, Every, Each, WordRow, ClockRow, Legal}
-use Rattle.sheet.specs.Reader.{ClockNode, clockOf, nodeOfClock, sectionAt, clockAt, Opened, readFrom, readSheet}
+use Rattle.sheet.specs.Reader.{sectionAt, clockAt, readFrom, readSheet}
+use Rattle.sheet.specs.Opened.{ClockNode, clockOf, nodeOfClock, Opened}
+use Rattle.sheet.specs.Format.{sheet}
 use Rattle.sheet.specs.WorkOut.{workedOf}
 use Rattle.sheet.specs.Promise.{UpTo, exprPlace}
 use Rattle.sheet.proofs.Rows.{section-stops}
 use Rattle.sheet.proofs.Clocks.{ClockMade, clock-read, clock-refused}
 use Rattle.sheet.proofs.Worked.{together, together-clocks, together-nodes, worked-rows}
-use Rattle.sheet.proofs.Sheets.{rows-map, spellRow, Opens, sheet-reads, short-enough, few-words, words-read, to-end, sheet-read}
-use Rattle.sheet.proofs.FirstFault.{refusal-stays}
+use Rattle.sheet.proofs.Sheets.{rows-map, spellRow, few-words, words-read, to-end, sheet-read}
+use Rattle.sheet.proofs.Format.{short-enough, refused-listed, listed-refused, refused-within, refused-stays, cut-listed}
 
 module _ (s : List ℕ) where
   pub too-long : bytesMost < length s → readSheet s ≡ refused beyond bytesMost
   unfolding readSheet
   too-long h = rw (lt-leb (length s) bytesMost h)
 
-  -- a text that is refused is short enough, or is refused at 32,768
-  by-length : (number place : ℕ) → readSheet s ≡ refused number place
-      → (length s ≤ bytesMost) ⊎ ((bytesMost < length s) × (place ≡ bytesMost))
-  unfolding readSheet
-  by-length number place h = go (leb (length s) bytesMost) refl h
-    where
-      go : (t : Bool) → leb (length s) bytesMost ≡ t → pick t (readFrom 0 s) (refused beyond bytesMost) ≡ refused number place
-          → (length s ≤ bytesMost) ⊎ ((bytesMost < length s) × (place ≡ bytesMost))
-      go true e k = inl (leb-true (length s) bytesMost e)
-      go false e k = inr (leb-false (length s) bytesMost e, cc)
-
   pub within : (number place : ℕ) → readSheet s ≡ refused number place → place ≤ length s
-  within number place h = go (by-length number place h)
-    where
-      go : (length s ≤ bytesMost) ⊎ ((bytesMost < length s) × (place ≡ bytesMost)) → place ≤ length s
-      go (inl l) = refusal-stays s [] number place l h .0
-      go (inr l) = omega (arith, l .0, l .1)
+  within number place h = refused-within s (refused-listed s number place h)
 
   pub first-fault : (rest : List ℕ) (number place : ℕ) → readSheet s ≡ refused number place → number ≢ missing → length (s ++ rest) ≤ bytesMost
       → readSheet (s ++ rest) ≡ refused number place
-  first-fault rest number place h k l =
-      let m : length s ≤ bytesMost = omega (arith, length-append s rest) in
-      short-enough (s ++ rest) l ∙ go (refusal-stays s rest number place m h .1)
-    where
-      go : (number ≡ missing) ⊎ (readFrom 0 (s ++ rest) ≡ refused number place) → readFrom 0 (s ++ rest) ≡ refused number place
-      go (inl e) = absurd (k e)
-      go (inr e) = e
+  first-fault rest number place h k l = listed-refused (s ++ rest) (refused-stays s rest l (refused-listed s number place h) k)
 
   pub bytes-after : (v : Sheet) (xs : List Node) (x : ℕ) (rest : List ℕ) → Legal v → Worked (v .words) (v .clocks) xs → s ≡ spellSheet v ++ (x ∷ rest) → length s ≤ bytesMost
       → readSheet s ≡ refused trailing (length (spellSheet v))
@@ -108,39 +89,7 @@ module _ (s : List ℕ) where
       (u .clock-legal) (rw n at i) (ap (λ (ys : List Node). evaluate ws ys (k .expr)) q ∙ v) (b₁ .1) bn bz (b₄ .1)
       ∙ ap₂ {C = Read Opened} (λ (a : ℕ) (ys : List Node). refused number (a + blame ws ys (k .expr))) place q
 
-  -- ---- slices that are too short
-  pub sheet-first : (number place clocks links : ℕ) → readSheet s ≡ refused number place → workedOf s clocks links ≡ refused number place
-  unfolding workedOf
-  sheet-first number place clocks links h = rw h
-
-  pub short-slice : (o : Opened) (c clocks links : ℕ) → readSheet s ≡ got o c → (clocks < 4 * length (o .table)) ⊎ (links < 3 * length (o .sheet .links))
-      → workedOf s clocks links ≡ refused shortResult 0
-  unfolding workedOf
-  short-slice o c clocks links h (inl l) = rw (h, lt-leb (4 * length (o .table)) clocks l)
-  short-slice o c clocks links h (inr l) = rw (h, lt-leb (3 * length (o .sheet .links)) links l) (either (leb (4 * length (o .table)) clocks))
-    where
-      either : (t : Bool) → _≡_ {A = Read Opened} (pick t (refused shortResult 0) (refused shortResult 0)) (refused shortResult 0)
-      either true = refl
-      either false = refl
-
 -- ---- a sheet cut short
-pub cut-short : (s : List ℕ) → AllBytes s → (v : Sheet) (xs : List Node) (x : ℕ) (rest : List ℕ) → Legal v → Worked (v .words) (v .clocks) xs → s ++ (x ∷ rest) ≡ spellSheet v
-    → (place : ℕ) × (readSheet s ≡ refused missing place)
-cut-short s bytes v xs x rest l w e = go (readSheet s) refl
-  where
-    short : length (s ++ (x ∷ rest)) ≤ bytesMost
-    short = rw e (l .bytes-most)
-
-    taken : readSheet (s ++ (x ∷ rest)) ≡ got (record { sheet = v; table = xs }) (length (spellSheet v))
-    taken = ap readSheet e ∙ sheet-read v xs l w
-
-    by-number : (t : Bool) (number place : ℕ) → eqb number missing ≡ t → readSheet s ≡ refused number place → (place : ℕ) × (readSheet s ≡ refused missing place)
-    by-number true number place t h = (place, h ∙ ap {B = Read Opened} (λ (n : ℕ). refused n place) (eqb-true number missing t))
-    by-number false number place t h = refused-got (sym (first-fault s (x ∷ rest) number place h (eqb-false number missing t) short) ∙ taken)
-
-    go : (r : Read Opened) → readSheet s ≡ r → (place : ℕ) × (readSheet s ≡ refused missing place)
-    go (got o c) h =
-        let p : Opens s o c = sheet-reads s bytes o c h in
-        let more : s ++ (x ∷ rest) ≡ spellSheet (o .sheet) ++ (x ∷ rest) = ap (λ (t : List ℕ). t ++ (x ∷ rest)) (p .bytes) in
-        refused-got (sym (bytes-after (s ++ (x ∷ rest)) (o .sheet) (o .table) x rest (p .legal) (p .worked) more short) ∙ taken)
-    go (refused number place) h = by-number (eqb number missing) number place refl h
+pub cut-short : (s : List ℕ) (v : Sheet) (xs : List Node) (x : ℕ) (rest : List ℕ) → Legal v → Worked (v .words) (v .clocks) xs → s ++ (x ∷ rest) ≡ spellSheet v
+    → (w place : ℕ) × Begins s sheet 0 w place × (length s < place + w) × (readSheet s ≡ refused missing place)
+cut-short s v xs x rest l w e = cut-listed s x rest _ _ (ap readSheet e ∙ sheet-read v xs l w)

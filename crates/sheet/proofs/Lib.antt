@@ -1,13 +1,14 @@
+pub mod Format
 pub mod Rows
 pub mod Words
 pub mod Clocks
 pub mod Links
 pub mod Worked
 pub mod Sheets
-pub mod FirstFault
 pub mod Faults
 pub mod Numbers
 pub mod Served
+pub mod Table
 pub mod Promise
 pub mod Readings
 pub mod BitCounts

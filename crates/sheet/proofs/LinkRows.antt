@@ -27,12 +27,12 @@ use Rattle.link.specs.declared.Verdict.the-variants.{Accepted, Rates, Early}
 use Rattle.link.specs.declared.Row.{Row}
 use Rattle.link.specs.Link.{sizeOf, verdictOf, numberOf, sizeIn, stateOf, openSizeOf, Passes}
 use Rattle.link.proofs.Links.{size-least, accepted-is}
-use Rattle.expression.specs.Table.{nodesIn, nodeAt, AllTaken, Holds}
+use Rattle.expression.specs.Inner.Nodes.{nodesIn, nodeAt, AllTaken, Holds}
 use Rattle.expression.proofs.Tables.{node-at}
 use Rattle.sheet.specs.Sheet.{Link, linksMost}
 use Rattle.sheet.specs.Reader.{rowsAt, sectionAt, linkAt}
 use Rattle.sheet.specs.Rooms.{verdictBetween, verdictIn, sizeOfRow}
-use Rattle.sheet.specs.Sections.{rowAt}
+use Rattle.sheet.specs.Inner.Sections.{rowAt}
 use Rattle.sheet.proofs.Readings.{Reached, reached-all, section-none, section-rows}
 
 -- ---- a link that was read

@@ -14,7 +14,8 @@ use Rattle.field.specs.declared.Field.{Field}
 use Rattle.field.proofs.Read.{refused-got}
 use Rattle.envelope.specs.declared.Node.{Node}
 use Rattle.envelope.specs.Envelope.{Taken}
-use Rattle.expression.specs.Table.{flat, flats, nodesIn, AllTaken, Holds}
+use Rattle.expression.specs.Table.{flat, flats}
+use Rattle.expression.specs.Inner.Nodes.{nodesIn, AllTaken, Holds}
 use Rattle.expression.proofs.Lookup.{none-some}
 use Rattle.expression.proofs.Tables.{flats-back, flats-more, flats-holds}
 use Rattle.sheet.specs.Reader.{rowsAt}

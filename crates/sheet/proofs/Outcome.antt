@@ -15,17 +15,20 @@ use Rattle.link.specs.declared.Row.{Row}
 use Rattle.link.specs.Link.{stateOf, openSizeOf}
 use Rattle.expression.specs.Expression.{Clock, spellWord, spellClock}
 use Rattle.expression.specs.Spelled.{indexes}
-use Rattle.expression.specs.Table.{flats, nodesIn}
+use Rattle.expression.specs.Table.{flats}
+use Rattle.expression.specs.Inner.Nodes.{nodesIn}
 use Rattle.expression.proofs.Tables.{flats-length}
 use Rattle.sheet.specs.declared.Found.{Found}
 use Rattle.sheet.specs.declared.Reading.{Reading}
 use Rattle.sheet.specs.declared.Rooms.{Rooms}
 use Rattle.sheet.specs.declared.Reply.{Reply}
 use Rattle.sheet.specs.Sheet.{Link, Sheet, clocksMost, linksMost, spellLink, section, spellSheet, LinkRow}
-use Rattle.sheet.specs.Reader.{rowsAt, sectionAt, linkAt, Opened, readSheet}
+use Rattle.sheet.specs.Reader.{rowsAt, sectionAt, linkAt, readSheet}
+use Rattle.sheet.specs.Opened.{Opened}
 use Rattle.sheet.specs.Rooms.{markOf, rowOf, rowsOf, total, openRoom, wholeRoom, sizeOfRow, verdictIn}
-use Rattle.sheet.specs.WorkOut.{workedOf, refusalOf, replyOf, clocksOut, flatRows, linksOut}
-use Rattle.sheet.specs.Sections.{foundOf, readingOf, stateOfClock, Tabled, rowAt, rowsIn, linksFrom, roomsOf, rowsFrom, Ready}
+use Rattle.sheet.specs.WorkOut.{workedOf, refusalOf, flatRows, WorksOut}
+use Rattle.sheet.specs.Inner.Sections.{foundOf, readingOf, Tabled, rowAt, rowsIn, linksFrom, roomsOf, rowsFrom, Ready}
+use Rattle.sheet.specs.Rooms.{stateOfClock}
 use Rattle.sheet.proofs.Rows.{section-read}
 use Rattle.sheet.proofs.Links.{link-read}
 use Rattle.sheet.proofs.Sheets.{Opens, sheet-reads}
@@ -57,11 +60,11 @@ module _ (o : Opened) (f : Found) (f-is : foundOf o ≡ f) where
   links-are = ap (λ (x : Found). x .links) f-is
 
 -- ---- the answer to a sheet that is refused, or for whose results there is too little room
-module _ (s : List ℕ) (A B : ℕ) where
-  pub out-refused : (number place : ℕ) (r : Reply) (o l : List ℤ) → workedOf s A B ≡ refused number place → r ≡ refusalOf number place
-      → (r ≡ replyOf (workedOf s A B)) × ((o ≡ clocksOut (workedOf s A B) o) × (l ≡ linksOut (workedOf s A B) l))
-  out-refused number place r o l e h = rw e (h, (refl, refl))
+pub out-refused : (s : List ℕ) (clocks links : List ℤ) (number place : ℕ) (r : Reply) → workedOf s (length clocks) (length links) ≡ refused number place → r ≡ refusalOf number place
+    → WorksOut s clocks links r clocks links
+out-refused s clocks links number place r e h = record { reply-is = rw e h; clocks-are = rw e; links-are = rw e }
 
+module _ (s : List ℕ) (A B : ℕ) where
   pub not-read : (number place : ℕ) → readSheet s ≡ refused number place → workedOf s A B ≡ refused number place
   unfolding workedOf
   not-read number place e = rw e
@@ -178,24 +181,25 @@ module _ (s : List ℕ) (bytes : AllBytes s) (o : Opened) (c : ℕ) (read : read
     rows-written = rw (there, table-is, states) (rows-are o (o .sheet .links))
 
     pub out-done :
-        (A B : ℕ) →
-        4 * f .clocks ≤ A →
-        3 * f .links ≤ B →
         (rooms : Rooms) (x x′ l l′ : List ℤ) →
+        4 * f .clocks ≤ length x →
+        3 * f .links ≤ length l →
         x′ ≡ take (4 * f .clocks) t ++ drop (length (take (4 * f .clocks) t)) x →
         rooms ≡ roomsOf (nodesIn (take (4 * f .clocks) t)) (take (f .clocks) ss) (linksFrom s (length (take (f .clocks) ss)) (f .links) (f .linkrows)) →
         l′ ≡ rowsFrom (nodesIn (take (4 * f .clocks) t)) (take (f .clocks) ss) (linksFrom s (length (take (f .clocks) ss)) (f .links) (f .linkrows)) ++ drop (3 * f .links) l →
-        (_≡_ {A = Reply} (record { number = 0; place = 0; clocks = f .clocks; links = f .links; opened = rooms .opened; whole = rooms .whole }) (replyOf (workedOf s A B)))
-        × ((x′ ≡ clocksOut (workedOf s A B) x) × (l′ ≡ linksOut (workedOf s A B) l))
+        WorksOut s x l (record { number = 0; place = 0; clocks = f .clocks; links = f .links; opened = rooms .opened; whole = rooms .whole }) x′ l′
     unfolding openRoom wholeRoom written
-    out-done A B h k rooms x x′ l l′ p q r =
-        rw (enough s A B o c read f f-is h k) (
-          reply,
-          (
-            p ∙ ap₂ (λ (y : List ℤ) (i : ℕ). y ++ drop i x) nodes (nodes-many ∙ ap (λ (i : ℕ). 4 * i) (sym (clocks-are o f f-is))),
-            r ∙ ap₂ (λ (rs : List Row) (i : ℕ). flatRows rs ++ drop (3 * i) l) rows-written (sym (links-are o f f-is)),
-          ),
-        )
+    out-done rooms x x′ l l′ h k p q r =
+        let e : workedOf s (length x) (length l) ≡ got o c = enough s (length x) (length l) o c read f f-is h k in
+        record {
+          reply-is = rw e reply;
+          clocks-are =
+              rw e
+              (p ∙ ap₂ (λ (y : List ℤ) (i : ℕ). y ++ drop i x) nodes (nodes-many ∙ ap (λ (i : ℕ). 4 * i) (sym (clocks-are o f f-is))));
+          links-are =
+              rw e
+              (r ∙ ap₂ (λ (rs : List Row) (i : ℕ). flatRows rs ++ drop (3 * i) l) rows-written (sym (links-are o f f-is)));
+        }
       where
         opened : rooms .opened ≡ openRoom o
         opened = ap (λ (y : Rooms). y .opened) q ∙ ap (λ (rs : List Row). total (map openSizeOf rs)) rows-written

@@ -6,10 +6,12 @@ use lib.ListN.{length}
 use Rattle.field.specs.Read.{Read.got}
 use Rattle.field.specs.Spelling.{AllBytes}
 use Rattle.sheet.specs.Reader.{readSheet}
-use Rattle.sheet.specs.Promise.{Tie, Served, Refusals, NoSecondReply}
+use Rattle.sheet.specs.Promise.{Tie, Served, Refusals}
 use Rattle.sheet.proofs.Sheets.{Opens, sheet-reads, sheet-read, one-sheet}
 use Rattle.sheet.proofs.Served.{meant, link-serves}
-use Rattle.sheet.proofs.Faults.{too-long, within, first-fault, bytes-after, by-rules, cut-short, sheet-first, short-slice}
+use Rattle.sheet.proofs.Format.{refused-listed, listed-refused, one-refusal, accepted-passed, passed-accepted}
+use Rattle.sheet.proofs.Table.{worked-listed, listed-worked, worked-passed, passed-worked}
+use Rattle.sheet.proofs.Faults.{too-long, within, first-fault, bytes-after, by-rules, cut-short}
 
 pub tie : (s : List ℕ) → AllBytes s → Tie s
 tie s bytes =
@@ -30,15 +32,15 @@ served s bytes =
 pub refusals : (s : List ℕ) → AllBytes s → Refusals s
 refusals s bytes =
     record {
+      given = λ number place. (refused-listed s number place, listed-refused s);
+      accepted = λ o c. (accepted-passed s o c, λ h. passed-accepted s o c (h .0) (h .1));
+      one = λ number number′ place place′. one-refusal s;
       too-long = too-long s;
       bytes-after = bytes-after s;
       by-rules = by-rules s;
-      cut-short = cut-short s bytes;
+      cut-short = cut-short s;
       first-fault = first-fault s;
       within = within s;
-      sheet-first = sheet-first s;
-      short-slice = short-slice s;
+      worked-given = λ clocks links number place. (worked-listed s clocks links number place, listed-worked s clocks links);
+      worked-accepted = λ clocks links o c. (worked-passed s clocks links o c, passed-worked s clocks links o c);
     }
-
-pub no-second-reply : NoSecondReply
-no-second-reply s clocks links r q cs cs′ ls ls′ a b = (a .reply-is ∙ sym (b .reply-is), a .clocks-are ∙ sym (b .clocks-are), a .links-are ∙ sym (b .links-are))

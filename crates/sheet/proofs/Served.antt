@@ -19,7 +19,8 @@ use Rattle.expression.specs.Promise.{AllLegal, Meaning}
 use Rattle.expression.proofs.Lookup.{lookup-there}
 use Rattle.expression.proofs.Promise.{meaning}
 use Rattle.sheet.specs.Sheet.{Link, LinkRow, WordRow}
-use Rattle.sheet.specs.Reader.{Opened, readSheet}
+use Rattle.sheet.specs.Reader.{readSheet}
+use Rattle.sheet.specs.Opened.{Opened}
 use Rattle.sheet.specs.Rooms.{verdictBetween, verdictIn}
 use Rattle.sheet.specs.Promise.{StreamOf}
 use Rattle.sheet.proofs.Rows.{every-at, each-at}

@@ -5,9 +5,9 @@ use Prim.Native.Nat.{ℕ, _≤_}
 use native.Mathlib.Omega.{arith}
 use lib.Dec.{leb, eqb}
 use lib.ListN.{length, length-map}
-use borrow.Author.Tests.{leb-true, le-leb, eqb-true, eq-eqb}
+use borrow.Author.Tests.{leb-true, eqb-true, eq-eqb}
 use Rattle.reply.specs.Numbers.{beyond, trailing}
-use Rattle.field.specs.Read.{Read, Read.got, Read.refused, bind, pick}
+use Rattle.field.specs.Read.{Read, Read.got, bind}
 use Rattle.field.specs.Spelling.{bytesOf, AllBytes, Bytes}
 use Rattle.field.proofs.Read.{through, pick-left}
 use Rattle.field.proofs.Spelling.{join, end, split, whole-text, itself}
@@ -16,7 +16,9 @@ use Rattle.expression.specs.Expression.{Word, Clock, spellWord, spellClock}
 use Rattle.expression.specs.Evaluate.{wordNode, wordNodes, Worked}
 use Rattle.expression.specs.Spelled.{indexes}
 use Rattle.sheet.specs.Sheet.{Sheet, wordsMost, clocksMost, linksMost, bytesMost, spellLink, rows, section, spellSheet, Every, Each, WordRow, ClockRow, LinkRow, Legal}
-use Rattle.sheet.specs.Reader.{ClockNode, clockOf, nodeOfClock, sectionAt, wordAt, clockAt, linkAt, Opened, readFrom, readSheet}
+use Rattle.sheet.specs.Reader.{sectionAt, wordAt, clockAt, linkAt, readFrom, readSheet}
+use Rattle.sheet.specs.Opened.{ClockNode, clockOf, nodeOfClock, Opened}
+use Rattle.sheet.proofs.Format.{short-enough, ended}
 use Rattle.sheet.proofs.Rows.{same-got, each-every, every-each, section-reads, section-read}
 use Rattle.sheet.proofs.Words.{word-reads, word-read}
 use Rattle.sheet.proofs.Clocks.{ClockMade, clock-reads, clock-read}
@@ -81,14 +83,6 @@ module _ (s : List ℕ) (bytes : AllBytes s) where
       reads-from o c (leb-true (length s) bytesMost (t .0)) (t .1)
 
 -- ---- and what is spelled is read
-pub short-enough : (s : List ℕ) → length s ≤ bytesMost → readSheet s ≡ readFrom 0 s
-unfolding readSheet
-short-enough s h = rw (le-leb (length s) bytesMost h)
-
--- what follows the links: nothing
-abbrev pub ended : List ℕ → Opened → ℕ → Read Opened
-ended s o c = pick (eqb c (length s)) (got o c) (refused trailing c)
-
 -- what follows the clocks: the links, and the end
 abbrev pub lastly : List ℕ → List Word → List Clock → List Node → ℕ → Read Opened
 lastly s words clocks xs b =

@@ -19,16 +19,20 @@ use Rattle.field.proofs.Fields.{There, field-there}
 use Rattle.envelope.specs.declared.Node.{Node}
 use Rattle.expression.specs.Expression.{Word, spellWord, spellClock}
 use Rattle.expression.specs.Evaluate.{wordNode, wordNodes}
-use Rattle.expression.specs.Table.{flats, nodesIn, Holds}
+use Rattle.expression.specs.Table.{flats}
+use Rattle.expression.specs.Inner.Nodes.{nodesIn, Holds}
 use Rattle.sheet.specs.declared.Found.{Found}
 use Rattle.sheet.specs.declared.Reading.{Reading}
 use Rattle.sheet.specs.Sheet.{Link, wordsMost, clocksMost, linksMost, bytesMost, section, WordRow}
-use Rattle.sheet.specs.Reader.{rowsAt, sectionAt, ClockNode, clockOf, nodeOfClock, clockAt, linkAt, Opened, readFrom, readSheet}
-use Rattle.sheet.specs.Sections.{WordRows, ClockRows, stateOfRow, stateOfClock, readingOf, Tabled}
+use Rattle.sheet.specs.Reader.{rowsAt, sectionAt, clockAt, linkAt, readFrom, readSheet}
+use Rattle.sheet.specs.Opened.{ClockNode, clockOf, nodeOfClock, Opened}
+use Rattle.sheet.specs.Inner.Sections.{WordRows, ClockRows, stateOfRow, readingOf, Tabled}
+use Rattle.sheet.specs.Rooms.{stateOfClock}
 use Rattle.sheet.proofs.Rows.{section-reads}
 use Rattle.sheet.proofs.Words.{word-reads}
 use Rattle.sheet.proofs.Clocks.{ClockMade, clock-reads}
-use Rattle.sheet.proofs.Sheets.{section-map, spellRow, short-enough}
+use Rattle.sheet.proofs.Format.{short-enough}
+use Rattle.sheet.proofs.Sheets.{section-map, spellRow}
 use Rattle.sheet.proofs.Readings.{mapped-got, mapped-refused, section-none, section-rows, rows-many, sectioned}
 use Rattle.sheet.proofs.NodeTables.{lent-holds, lent-nodes, Listed, left-refused, left-got}
 use Rattle.sheet.proofs.WordTable.{word-row, words-left}

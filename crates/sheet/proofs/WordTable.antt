@@ -23,7 +23,7 @@ use Rattle.expression.specs.Evaluate.{wordNode}
 use Rattle.expression.specs.Table.{flat}
 use Rattle.sheet.specs.Sheet.{wordsMost}
 use Rattle.sheet.specs.Reader.{rowsAt, bitsAt, wordAt}
-use Rattle.sheet.specs.Sections.{wordBits, WordsLeft, WordRows}
+use Rattle.sheet.specs.Inner.Sections.{wordBits, WordsLeft, WordRows}
 use Rattle.sheet.proofs.Words.{word-reads}
 use Rattle.sheet.proofs.Readings.{mapped-got, mapped-refused, reached-refused, section-none, section-rows}
 use Rattle.sheet.proofs.NodeTables.{Stored, stored-more, stored-all, Left}

@@ -11,13 +11,13 @@ use Rattle.field.specs.Read.{Read.got}
 use Rattle.envelope.specs.declared.Node.{Node}
 use Rattle.link.specs.declared.Row.{Row}
 use Rattle.link.specs.Link.{numberOf, sizeIn, openSizeOf}
-use Rattle.expression.specs.Table.{AllTaken}
+use Rattle.expression.specs.Inner.Nodes.{AllTaken}
 use Rattle.sheet.specs.declared.Rooms.{Rooms}
 use Rattle.sheet.specs.Sheet.{Link}
 use Rattle.sheet.specs.Reader.{linkAt}
 use Rattle.sheet.specs.Rooms.{total, sizeOfRow}
 use Rattle.sheet.specs.WorkOut.{flatRow, flatRows}
-use Rattle.sheet.specs.Sections.{rowAt, rowsIn, linksFrom, roomsOf, rowsFrom}
+use Rattle.sheet.specs.Inner.Sections.{rowAt, rowsIn, linksFrom, roomsOf, rowsFrom}
 use Rattle.sheet.proofs.Readings.{Reached, reached-none, reached-more, reached-all}
 use Rattle.sheet.proofs.NodeTables.{map-more}
 use Rattle.sheet.proofs.LinkRows.{row-small, open-most}

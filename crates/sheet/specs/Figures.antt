@@ -3,7 +3,6 @@ use mathlib.Core.List.{List, [], _∷_, _++_}
 use Prim.Native.Nat.{ℕ, zero, suc}
 use lib.IntN.{ℤ, pos, negℤ}
 use lib.ListN.{replicate}
-use Rattle.reply.specs.Numbers.{noOne, tooDeep, empty, fullRate, trailing, shortResult}
 use Rattle.sheet.specs.declared.Reply.{Reply}
 use Rattle.sheet.specs.WorkOut.{workedOf, replyOf, clocksOut, linksOut}
 
@@ -90,16 +89,16 @@ documentClocks =
 abbrev pub documentLinks : List ℤ
 documentLinks = pos 0 ∷ pos 2 ∷ pos 0 ∷ pos 2 ∷ pos 0 ∷ pos 0 ∷ pos 1 ∷ pos 0 ∷ pos 1 ∷ []
 
--- "room 2 2"; "elements past those stay as found"; 11; 10; "Period 0: refused 4"; "Not of 0(1): refused 8"; "Declared 0 1 5 3: refused 7"; "Depth 12 taken, 13 refused"
+-- "room 2 2"; "elements past those stay as found"; 11; 10; "Period 0: refused 4"; "Not of 0(1): refused 8"; "Declared 0 1 5 3: refused 7"; "Depth 12 taken, 13 refused", by 6. The numbers are document 01's figures, not names that the rules use.
 abbrev pub said : List Answer
 said =
     accepted 3 3 2 2 documentClocks documentLinks
     ∷ accepted 3 3 2 2 (documentClocks ++ zeros 1) (documentLinks ++ zeros 1)
-    ∷ refusedAt shortResult 0 12 8
-    ∷ refusedAt trailing 46 12 9
-    ∷ refusedAt noOne 4 4 0
-    ∷ refusedAt fullRate 9 4 0
-    ∷ refusedAt empty 9 4 0
+    ∷ refusedAt 11 0 12 8
+    ∷ refusedAt 10 46 12 9
+    ∷ refusedAt 4 4 4 0
+    ∷ refusedAt 8 9 4 0
+    ∷ refusedAt 7 9 4 0
     ∷ accepted 1 0 0 0 (pos 1 ∷ pos 1 ∷ pos 2 ∷ pos 1 ∷ []) []
-    ∷ refusedAt tooDeep 21 4 0
+    ∷ refusedAt 6 21 4 0
     ∷ []

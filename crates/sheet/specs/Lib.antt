@@ -1,7 +1,9 @@
 pub mod Sheet
+pub mod Opened
 pub mod Reader
+pub mod Format
 pub mod Rooms
 pub mod WorkOut
-pub mod Sections
 pub mod Promise
 pub mod Figures
+pub mod Inner

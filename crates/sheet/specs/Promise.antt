@@ -1,14 +1,14 @@
 -- What is proved of sheets, one field for each promise: of a text s of bytes.
 use mathlib.Core.Path.{_≡_}
-use mathlib.Core.Logic.{_⊎_, _≢_}
+use mathlib.Core.Logic.{_⊎_, _≢_, _↔_}
 use mathlib.Core.List.{List, _∷_, _++_}
 use mathlib.Core.Option.{some}
 use Prim.Native.Nat.{ℕ, _+_, _*_, _≤_, _<_}
-use lib.IntN.{ℤ}
 use lib.ListN.{length, getElem?}
-use Rattle.reply.specs.Numbers.{missing, beyond, trailing, shortResult}
+use Rattle.reply.specs.Numbers.{missing, beyond, trailing}
 use Rattle.field.specs.Read.{Read.got, Read.refused}
 use Rattle.field.specs.Spelling.{bytesOf}
+use Rattle.field.specs.Format.{Begins}
 use Rattle.envelope.specs.declared.Node.{Node}
 use Rattle.envelope.specs.Stream.{Stream, Lies}
 use Rattle.link.specs.declared.Verdict.the-variants.{Accepted}
@@ -16,14 +16,15 @@ use Rattle.link.specs.Promise.{Serves}
 use Rattle.expression.specs.Expression.{Word, Expr, Clock, spellWord, spellClock}
 use Rattle.expression.specs.Stands.{Stands}
 use Rattle.expression.specs.Evaluate.{Worth.fault, evaluate, wordNodes, Worked}
-use Rattle.expression.specs.Table.{AllTaken}
+use Rattle.expression.specs.Inner.Nodes.{AllTaken}
 use Rattle.expression.specs.Spelled.{InRange}
 use Rattle.expression.specs.Blame.{blame}
-use Rattle.sheet.specs.declared.Reply.{Reply}
 use Rattle.sheet.specs.Sheet.{Link, Sheet, wordsMost, clocksMost, bytesMost, rows, section, spellSheet, Every, WordRow, ClockRow, Legal}
-use Rattle.sheet.specs.Reader.{Opened, readSheet}
+use Rattle.sheet.specs.Reader.{readSheet}
+use Rattle.sheet.specs.Opened.{Opened}
+use Rattle.sheet.specs.Format.{sheet, Refused, Passed, WorkRefused}
 use Rattle.sheet.specs.Rooms.{verdictIn}
-use Rattle.sheet.specs.WorkOut.{workedOf, replyOf, clocksOut, linksOut}
+use Rattle.sheet.specs.WorkOut.{workedOf}
 
 -- bytes and values are tied
 pub record Tie (s : List ℕ) : Type 0 where
@@ -73,6 +74,12 @@ exprPlace words clocks = length (section spellWord words) + (2 + (length (rows s
 
 -- which refusals are given, and where
 pub record Refusals (s : List ℕ) : Type 0 where
+  -- "Reply numbers", 1 to 10: each is given exactly when the table says, with its place
+  pub given : (number place : ℕ) → (readSheet s ≡ refused number place) ↔ Refused s number place
+  -- and the rest is accepted: what is right to its end
+  pub accepted : (o : Opened) (c : ℕ) → (readSheet s ≡ got o c) ↔ (Passed s o × (c ≡ length s))
+  -- and the table gives one number at one place
+  pub one : (number number′ place place′ : ℕ) → Refused s number place → Refused s number′ place′ → (number ≡ number′) × (place ≡ place′)
   -- "sheet too long": 32,768
   pub too-long : bytesMost < length s → readSheet s ≡ refused beyond bytesMost
   -- "bytes after the last link": the first
@@ -82,26 +89,15 @@ pub record Refusals (s : List ℕ) : Type 0 where
   pub by-rules : (words : List Word) (clocks : List Clock) (xs : List Node) (k : Clock) (number : ℕ) → UpTo s words clocks xs k
       → InRange (length words) (length clocks) (k .expr) → evaluate (wordNodes words) xs (k .expr) ≡ fault number
       → readSheet s ≡ refused number (exprPlace words clocks + blame (wordNodes words) xs (k .expr))
-  -- a sheet that is cut short: bytes are missing
+  -- a sheet that is cut short: bytes are missing, at the field that is cut
   pub cut-short : (v : Sheet) (xs : List Node) (x : ℕ) (rest : List ℕ) → Legal v → Worked (v .words) (v .clocks) xs → s ++ (x ∷ rest) ≡ spellSheet v
-      → (place : ℕ) × (readSheet s ≡ refused missing place)
+      → (w place : ℕ) × Begins s sheet 0 w place × (length s < place + w) × (readSheet s ≡ refused missing place)
   -- "the sheet is read left to right and the first fault is given": whatever follows a fault, that fault is given
   pub first-fault : (rest : List ℕ) (number place : ℕ) → readSheet s ≡ refused number place → number ≢ missing → length (s ++ rest) ≤ bytesMost
       → readSheet (s ++ rest) ≡ refused number place
   -- a place is one of the text, or its end
   pub within : (number place : ℕ) → readSheet s ≡ refused number place → place ≤ length s
-  -- "11 comes after the whole sheet has passed"
-  pub sheet-first : (number place clocks links : ℕ) → readSheet s ≡ refused number place → workedOf s clocks links ≡ refused number place
-  pub short-slice : (o : Opened) (c clocks links : ℕ) → readSheet s ≡ got o c → (clocks < 4 * length (o .table)) ⊎ (links < 3 * length (o .sheet .links))
-      → workedOf s clocks links ≡ refused shortResult 0
-
--- what working a sheet out promises: the reply, and what the two lent slices hold at the end
-pub record WorksOut (s : List ℕ) (clocks links : List ℤ) (reply : Reply) (clocks-end links-end : List ℤ) : Type 0 where
-  pub reply-is : reply ≡ replyOf (workedOf s (length clocks) (length links))
-  pub clocks-are : clocks-end ≡ clocksOut (workedOf s (length clocks) (length links)) clocks
-  pub links-are : links-end ≡ linksOut (workedOf s (length clocks) (length links)) links
-
--- it decides every returned number and every lent element: no second reply satisfies it
-abbrev pub NoSecondReply : Type 0
-NoSecondReply = (s : List ℕ) (clocks links : List ℤ) (r q : Reply) (cs cs′ ls ls′ : List ℤ)
-    → WorksOut s clocks links r cs ls → WorksOut s clocks links q cs′ ls′ → (r ≡ q) × (cs ≡ cs′) × (ls ≡ ls′)
+  -- 1 to 11, and what is worked out: a sheet that passes, where both slices are long enough
+  pub worked-given : (clocks links number place : ℕ) → (workedOf s clocks links ≡ refused number place) ↔ WorkRefused s clocks links number place
+  pub worked-accepted : (clocks links : ℕ) (o : Opened) (c : ℕ)
+      → (workedOf s clocks links ≡ got o c) ↔ (Passed s o × (c ≡ length s) × (4 * length (o .table) ≤ clocks) × (3 * length (o .sheet .links) ≤ links))

@@ -12,6 +12,7 @@ use Rattle.expression.specs.Expression.{Word, Clock, depthMost}
 use Rattle.expression.specs.Evaluate.{wordNodes}
 use Rattle.expression.specs.Reader.{exprAt}
 use Rattle.sheet.specs.Sheet.{Link, Sheet, wordsMost, clocksMost, linksMost, bytesMost}
+use Rattle.sheet.specs.Opened.{ClockNode, clockOf, nodeOfClock, Opened}
 
 -- n rows from a on, after those of xs; `row xs a` reads one
 unfoldable pub rowsAt : {A : Type 0} → (List A → ℕ → Read A) → ℕ → List A → ℕ → Read (List A)
@@ -36,17 +37,6 @@ wordAt s a =
     bind (bitsAt q s c₃) λ v c₄.
     pick (leb 1 (onesIn v)) (got (record { prefix = u; period = v }) c₄) (refused noOne c₃)
 
--- a clock and its node
-pub record ClockNode : Type 0 where
-  pub clock : Clock
-  pub node : Node
-
-abbrev pub clockOf : ClockNode → Clock
-clockOf r = r .clock
-
-abbrev pub nodeOfClock : ClockNode → Node
-nodeOfClock r = r .node
-
 -- "state u8 (0 open, 1 closed), then one expression"
 unfoldable pub clockAt : List ℕ → List Node → List ClockNode → ℕ → Read ClockNode
 clockAt s ws rows a =
@@ -60,11 +50,6 @@ linkAt s n xs a =
     bind (fieldIn 2 0 n absent s a) λ p c.
     bind (fieldIn 2 0 n absent s c) λ q d.
     got (record { producer = p; consumer = q }) d
-
--- a sheet that was read, with its clocks' nodes
-pub record Opened : Type 0 where
-  pub sheet : Sheet
-  pub table : List Node
 
 -- the sections, from a on
 unfoldable pub readFrom : ℕ → List ℕ → Read Opened

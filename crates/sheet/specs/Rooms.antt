@@ -10,7 +10,7 @@ use Rattle.link.specs.declared.Row.{Row}
 use Rattle.link.specs.Link.{verdictOf, sizeIn, stateOf, openSizeOf}
 use Rattle.expression.specs.Expression.{Clock}
 use Rattle.sheet.specs.Sheet.{Link}
-use Rattle.sheet.specs.Reader.{Opened}
+use Rattle.sheet.specs.Opened.{Opened}
 
 -- the verdict on a link between two nodes (a link whose end is missing stands in no legal sheet)
 abbrev pub verdictBetween : Option Node → Option Node → Verdict
@@ -52,3 +52,6 @@ sizeOfRow r = sizeIn (r .verdict)
 
 unfoldable pub wholeRoom : Opened → ℕ
 wholeRoom o = total (map sizeOfRow (rowsOf o))
+
+abbrev pub stateOfClock : Clock → ℕ
+stateOfClock c = c .state

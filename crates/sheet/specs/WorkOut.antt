@@ -1,4 +1,5 @@
 -- Working a sheet out: the reply, and what the two lent slices hold at the end.
+use mathlib.Core.Path.{_≡_}
 use mathlib.Core.List.{List, [], _∷_, _++_}
 use Prim.Native.Nat.{ℕ, _*_}
 use lib.IntN.{ℤ, pos}
@@ -10,7 +11,8 @@ use Rattle.link.specs.declared.Row.{Row}
 use Rattle.link.specs.Link.{numberOf, sizeIn}
 use Rattle.expression.specs.Table.{flats}
 use Rattle.sheet.specs.declared.Reply.{Reply}
-use Rattle.sheet.specs.Reader.{Opened, readSheet}
+use Rattle.sheet.specs.Reader.{readSheet}
+use Rattle.sheet.specs.Opened.{Opened}
 use Rattle.sheet.specs.Rooms.{rowsOf, openRoom, wholeRoom}
 
 -- "11: a lent result slice is too short", "after the whole sheet has passed": so many numbers for the clocks, so many for the links
@@ -54,3 +56,9 @@ clocksOut (refused number place) t = t
 abbrev pub linksOut : Read Opened → List ℤ → List ℤ
 linksOut (got o c) t = flatRows (rowsOf o) ++ drop (3 * length (o .sheet .links)) t
 linksOut (refused number place) t = t
+
+-- the contract of `work_out`: the reply, and what the two lent slices hold at the end
+pub record WorksOut (s : List ℕ) (clocks links : List ℤ) (reply : Reply) (clocks-end links-end : List ℤ) : Type 0 where
+  pub reply-is : reply ≡ replyOf (workedOf s (length clocks) (length links))
+  pub clocks-are : clocks-end ≡ clocksOut (workedOf s (length clocks) (length links)) clocks
+  pub links-are : links-end ≡ linksOut (workedOf s (length clocks) (length links)) links

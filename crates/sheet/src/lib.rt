@@ -9,12 +9,13 @@ ghost use Rattle.link.specs.Link.{sizeIn};
 ghost use Rattle.field.specs.Read.{mapped};
 ghost use Rattle.expression.specs.Reader.{valueOf};
 ghost use Rattle.expression.specs.Evaluate.{wordNode};
-ghost use Rattle.expression.specs.Table.{Holds, nodesIn, flats};
+ghost use Rattle.expression.specs.Table.{flats};
+ghost use Rattle.expression.specs.Inner.Nodes.{Holds, nodesIn};
 ghost use Rattle.envelope.specs.Word.{onesIn};
 ghost use Rattle.sheet.specs.Sheet.{clocksMost, linksMost};
 ghost use Rattle.sheet.specs.Reader.{rowsAt, sectionAt, bitsAt, wordAt, clockAt, linkAt, readSheet};
-ghost use Rattle.sheet.specs.WorkOut.{workedOf, refusalOf, replyOf, flatRow, clocksOut, linksOut};
-ghost use Rattle.sheet.specs.Sections.{WordRows, ClockRows, markedOf, markedAt, endsOf, wordBits, refusedOf, readingOf, Tabled, rowAt, Ready, linksFrom, roomsOf, rowsFrom};
+ghost use Rattle.sheet.specs.WorkOut.{refusalOf, flatRow, WorksOut};
+ghost use Rattle.sheet.specs.Inner.Sections.{WordRows, ClockRows, markedOf, markedAt, endsOf, wordBits, refusedOf, readingOf, Tabled, rowAt, Ready, linksFrom, roomsOf, rowsFrom};
 use envelope::Envelope;
 use envelope::Node;
 use expression::Value;
@@ -127,7 +128,7 @@ pub enum Marked {
 }
 
 // A clock, after those whose nodes are in `clocks`.
-pub fn clock(start: Cursor, s: &[u8], words: &[i32], clocks: &[i32]) -> Marked
+fn clock(start: Cursor, s: &[u8], words: &[i32], clocks: &[i32]) -> Marked
     requires { ⌜ Holds (now words) × Holds (now clocks) ⌝ }
     ensures { λ r. ⌜ markedOf r ≡ markedAt (now (s .entry)) (nodesIn (now (words .entry))) (nodesIn (now (clocks .entry))) (start .at) ⌝ }
 {
@@ -141,7 +142,7 @@ pub fn clock(start: Cursor, s: &[u8], words: &[i32], clocks: &[i32]) -> Marked
 }
 
 // n clocks: the cursor past them; their nodes are left in `table`, their states in `states`.
-pub fn clock_rows(
+fn clock_rows(
     start: Cursor,
     s: &[u8],
     words: &[i32],
@@ -380,9 +381,7 @@ fn copy(from: &[i32], to: &mut [i64])
 
 // Works a sheet out: k, K, l and n of each clock go to `clocks`, verdict, size and state of each link to `links`.
 pub fn work_out(sheet: &[u8], clocks: &mut [i64], links: &mut [i64]) -> Reply
-    ensures reply { λ r. ⌜ r ≡ replyOf (workedOf (now (sheet .entry)) (length (now (clocks .entry))) (length (now (links .entry)))) ⌝ }
-    ensures clocks { λ _. ⌜ now (clocks .exit) ≡ clocksOut (workedOf (now (sheet .entry)) (length (now (clocks .entry))) (length (now (links .entry)))) (now (clocks .entry)) ⌝ }
-    ensures links { λ _. ⌜ now (links .exit) ≡ linksOut (workedOf (now (sheet .entry)) (length (now (clocks .entry))) (length (now (links .entry)))) (now (links .entry)) ⌝ }
+    ensures { λ r. ⌜ WorksOut (now (sheet .entry)) (now (clocks .entry)) (now (links .entry)) r (now (clocks .exit)) (now (links .exit)) ⌝ }
 {
     let mut table = [0i32; 512];
     let mut states = [0u8; 128];

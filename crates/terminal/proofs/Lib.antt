@@ -1,5 +1,4 @@
 pub mod Figures
 pub mod Signs
-pub mod Going
 pub mod Lines
 pub mod Counted

@@ -1,6 +1,6 @@
 // Lines for standard output, in a lent buffer: each function puts its bytes from `at` on, and answers the place past them.
 ghost use mathlib.Core.Path.{_≡_};
-ghost use Prim.Native.Nat.{_+_, _≤_, _<_};
+ghost use Prim.Native.Nat.{_≤_, _<_};
 ghost use lib.ListN.{length};
 ghost use Rattle.io.specs.Digits.{glyph as Digits·glyph};
 ghost use Rattle.line.specs.Text.{Put};
@@ -21,7 +21,6 @@ fn bit_figure(bit: u8) -> u8
 
 // A pattern: a figure for each bit, and a line feed.
 pub fn put_bits(out: &mut [u8], at: usize, bits: &[u8]) -> usize
-    requires { ⌜ at + length (bitLine (now bits)) ≤ length (now out) ⌝ }
     ensures { λ r. ⌜ Put (now (out .entry)) at (bitLine (now (bits .entry))) (now (out .exit)) r ⌝ }
 {
     let mut next = at;
@@ -42,7 +41,6 @@ fn glyph(d: u8) -> u8
 }
 
 fn put_hex_byte(out: &mut [u8], at: usize, b: u8, after: u8) -> usize
-    requires { ⌜ at + 3 ≤ length (now out) ⌝ }
     ensures { λ r. ⌜ Put (now (out .entry)) at (hexByte b after) (now (out .exit)) r ⌝ }
 {
     let second = put_byte(out, at, glyph(b / 16));
@@ -64,7 +62,6 @@ fn after_byte(i: usize, n: usize) -> u8
 
 // Two figures for each byte, with a blank between, and a line feed.
 pub fn put_hex(out: &mut [u8], at: usize, bytes: &[u8]) -> usize
-    requires { ⌜ at + length (hexLine (now bytes)) ≤ length (now out) ⌝ }
     ensures { λ r. ⌜ Put (now (out .entry)) at (hexLine (now (bytes .entry))) (now (out .exit)) r ⌝ }
 {
     let mut next = at;

@@ -3,6 +3,7 @@ use mathlib.Core.Path.{sym}
 use native.Mathlib.Omega.{arith}
 use lib.Seq.{length-take-le}
 use borrow.Author.Needs.{needs}
+use Rattle.line.proofs.Puts.{put-at}
 use Rattle.close.proofs.replace.Statement.{statement}
 use Rattle.close.proofs.replace.Tie as tie
 use Rattle.close.proofs.replace.Reads as reads
@@ -37,11 +38,13 @@ put-bytes-requires-2 c κs = search needs
 
 -- src/main.rt:78:16
 array-borrow-prefix-temp : tie.Need-array-borrow-prefix-temp
-array-borrow-prefix-temp c = search needs
+array-borrow-prefix-temp c =
+    let p = c .before .before .before .before .before .put-bytes in
+    omega (arith, put-at _ _ _ 0 _ (omega arith) (p .ensures), put-at _ _ _ (p .result) _ (omega arith) (c .before .put-bytes2 .ensures))
 
 -- src/main.rt:78:16
 slice-aggregate-swap : tie.Need-slice-aggregate-swap
-slice-aggregate-swap c = sym (length-take-le _ _ (omega arith))
+slice-aggregate-swap c = sym (length-take-le _ _ (array-borrow-prefix-temp (c .before)))
 
 -- src/main.rt:78:5
 swap-requires : tie.Need-swap-requires

@@ -16,7 +16,7 @@ use Rattle.whole.proofs.Machine.{told}
 use Rattle.envelope.specs.declared.Span.{Span}
 use Rattle.envelope.specs.Stream.{ones}
 use Rattle.envelope.specs.Word.{bitAt}
-use Rattle.envelope.specs.Span.{withOf, spanOf}
+use Rattle.envelope.specs.Inner.Span.{withOf, spanOf}
 use Rattle.envelope.proofs.Counts.{ones-none, ones-one, ones-zero}
 use Rattle.envelope.proofs.Spans.{span-none, span-one, span-zero}
 use Rattle.envelope.proofs.spread.Statement.{statement}

@@ -1,9 +1,6 @@
 -- `txori_check` meets its contract. Assumes nothing.
-use mathlib.Core.Path.{_∙_, ap}
 use borrow.Author.Needs.{needs}
-use Rattle.pattern.specs.Answer.{checkAnswer}
-use Rattle.pattern.proofs.Answers.{answer-given}
-use Rattle.export.specs.Flat.{answerReply}
+use Rattle.pattern.proofs.Answers.{checks-given}
 use Rattle.export.proofs.txori_check.Statement.{statement}
 use Rattle.export.proofs.txori_check.Tie as tie
 
@@ -16,7 +13,11 @@ flat-requires c κs = search needs
 returns : tie.Need-returns
 returns c =
     let s = c .before .before .before in
-    c .flat .ensures ∙ ap answerReply (answer-given (s .args .k) (s .args .K) (s .args .l) (s .args .n) (s .fits .k) (s .fits .K) checkAnswer (c .before .check .ensures))
+    record {
+      answer = _;
+      satisfies = checks-given (s .args .k) (s .args .K) (s .args .l) (s .args .n) (s .fits .k) (s .fits .K) (c .before .check .ensures);
+      reply-is = c .flat .ensures;
+    }
 
 pub txori-check-spec : {M : Type 1} → statement M
 txori-check-spec = tie.close (tie.spec check-requires flat-requires returns)

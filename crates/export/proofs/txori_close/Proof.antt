@@ -1,5 +1,5 @@
 -- `txori_close` meets its contract. Assumes nothing.
-use mathlib.Core.Path.{_∙_, ap, sym}
+use mathlib.Core.Path.{ap, sym}
 use borrow.Author.Needs.{needs}
 use Rattle.export.specs.Flat.{closeReply}
 use Rattle.export.proofs.txori_close.Statement.{statement}
@@ -21,15 +21,13 @@ same-length : tie.Need-same-length
 same-length c = search needs
 
 returns : tie.Need-returns
-returns c = let r = c .before .before .before .before .before .close .ensures in
-    (ap closeReply (sym (c .before .place .given .1) ∙ r .0), r .1)
+returns c = record { answer = _; satisfies = c .before .before .before .before .before .close .ensures; reply-is = ap closeReply (sym (c .before .place .given .1)) }
 
 same-length-2 : tie.Need-same-length-2
 same-length-2 c = search needs
 
 returns-2 : tie.Need-returns-2
-returns-2 c = let r = c .before .before .before .before .before .close .ensures in
-    (ap closeReply (sym (c .before .number .given .1) ∙ r .0), r .1)
+returns-2 c = record { answer = _; satisfies = c .before .before .before .before .before .close .ensures; reply-is = ap closeReply (sym (c .before .number .given .1)) }
 
 pub txori-close-spec : {M : Type 1} → statement M
 txori-close-spec =

@@ -1,9 +1,6 @@
 -- `txori_first` meets its contract. Assumes nothing.
-use mathlib.Core.Path.{_∙_, ap}
 use borrow.Author.Needs.{needs}
-use Rattle.pattern.specs.Answer.{firstAnswer, firstBytes}
-use Rattle.pattern.proofs.Answers.{both-given}
-use Rattle.export.specs.Flat.{answerReply}
+use Rattle.pattern.proofs.Answers.{firsts-given}
 use Rattle.export.proofs.txori_first.Statement.{statement}
 use Rattle.export.proofs.txori_first.Tie as tie
 
@@ -20,8 +17,11 @@ returns : tie.Need-returns
 returns c =
     let d = c .before .before .before in
     let s = d .before .before .before in
-    let r = both-given (s .args .k) (s .args .K) (s .args .l) (s .args .n) (s .fits .k) (s .fits .K) firstAnswer firstBytes (d .first .ensures) in
-    (c .flat .ensures ∙ ap answerReply (r .0), r .1)
+    record {
+      answer = _;
+      satisfies = firsts-given (s .args .k) (s .args .K) (s .args .l) (s .args .n) (s .fits .k) (s .fits .K) (d .first .ensures);
+      reply-is = c .flat .ensures;
+    }
 
 pub txori-first-spec : {M : Type 1} → statement M
 txori-first-spec = tie.close (tie.spec first-requires flat-requires same-length returns)

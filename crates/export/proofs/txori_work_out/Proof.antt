@@ -1,7 +1,6 @@
 -- `txori_work_out` meets its contract. Assumes nothing.
-use mathlib.Core.Path.{ap}
+use mathlib.Core.Path.{refl}
 use borrow.Author.Needs.{needs}
-use Rattle.export.specs.Flat.{workOutReply}
 use Rattle.export.proofs.txori_work_out.Statement.{statement}
 use Rattle.export.proofs.txori_work_out.Tie as tie
 
@@ -18,8 +17,7 @@ same-length-2 : tie.Need-same-length-2
 same-length-2 c = search needs
 
 returns : tie.Need-returns
-returns c = let r = c .before .before .before .work-out .ensures in
-    (ap workOutReply (r .0), r .1)
+returns c = record { answer = _; satisfies = c .before .before .before .work-out .ensures; reply-is = refl }
 
 pub txori-work-out-spec : {M : Type 1} → statement M
 txori-work-out-spec =

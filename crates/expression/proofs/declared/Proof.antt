@@ -12,7 +12,7 @@ use Rattle.field.proofs.Fields.{field-there}
 use Rattle.envelope.specs.Limits.{lMost, lowerLeast, lowerMost, upperLeast, upperMost}
 use Rattle.envelope.specs.Made.{Fields}
 use Rattle.envelope.proofs.Held.{k-held, K-held}
-use Rattle.expression.specs.Parts.{declaredAt}
+use Rattle.expression.specs.Inner.Parts.{declaredAt}
 use Rattle.expression.proofs.Fields.{fields-read, declared-read}
 use Rattle.expression.proofs.declared.Statement.{statement}
 use Rattle.expression.proofs.declared.Tie as tie

@@ -13,7 +13,7 @@ use mir.Syntax.{w32, w64}
 use mir.Val.{SFits, Fits, toZ, ofZ}
 use mir.Facts.{toZ-ofZ}
 use Rattle.envelope.specs.declared.Node.{Node}
-use Rattle.expression.specs.Table.{nodeFrom}
+use Rattle.expression.specs.Inner.Nodes.{nodeFrom}
 use Rattle.expression.proofs.Tables.{holds-unsigned, wide, wide-held}
 use Rattle.expression.proofs.entry.Statement.{statement}
 use Rattle.expression.proofs.entry.Tie as tie

@@ -3,7 +3,7 @@
 use borrow.Author.Needs.{needs}
 use native.Mathlib.Omega.{arith}
 use Rattle.field.proofs.Fields.{there}
-use Rattle.expression.specs.Parts.{listedAt}
+use Rattle.expression.specs.Inner.Parts.{listedAt}
 use Rattle.expression.proofs.listed.Statement.{statement}
 use Rattle.expression.proofs.listed.Tie as tie
 

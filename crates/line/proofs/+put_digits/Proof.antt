@@ -4,9 +4,9 @@ use native.Mathlib.Omega.{arith}
 use borrow.Author.Needs.{needs}
 use borrow.Fn.Kinds.{In}
 use borrow.Fn.PlainCycle.{Measures, is, falls, and}
-use mathlib.Core.Path.{sym}
-use Rattle.line.proofs.Puts.{puts, put-as}
-use Rattle.line.proofs.Digits.{digits-few, digits-more, length-few, length-more}
+use Rattle.line.specs.Text.{put}
+use Rattle.line.proofs.Puts.{put-then}
+use Rattle.line.proofs.Digits.{digits-few, digits-more}
 use Rattle.line.proofs.put_digits.Reads as put-digits
 use Rattle.line.proofs.put_digits.Kinds as put-digits-kinds
 use Rattle.line.proofs.+put_digits.Lts-put_digits as put-digits-lts
@@ -35,23 +35,19 @@ cast-put-byte : (t : ℕ) → put-digits-lts.Need-cast-put-byte (calls t) (put-d
 cast-put-byte t c = search needs
 
 put-byte-requires : (t : ℕ) → put-digits-lts.Need-put-byte-requires (calls t) (put-digits-at t) put-digits.Post
-put-byte-requires t c κs =
-    let s = c .before .before .before in
-    omega (arith, s .pre .1, length-few (s .args .x) (omega arith))
+put-byte-requires t c κs = search needs
 
 same-length : (t : ℕ) → put-digits-lts.Need-same-length (calls t) (put-digits-at t) put-digits.Post
 same-length t c = search needs
 
 returns : (t : ℕ) → put-digits-lts.Need-returns (calls t) (put-digits-at t) put-digits.Post
+unfolding put
 returns t c =
-    let i = c .before .before .before .before in
-    put-as (sym (digits-few (i .before .before .args .x) (omega arith))) (c .before .before .put-byte .ensures)
+    let s = c .before .before .before .before .before .before in
+    rw (digits-few (s .args .x) (omega arith)) (c .before .before .put-byte .ensures)
 
 put-digits-requires : (t : ℕ) → put-digits-lts.Need-put-digits-requires (calls t) (put-digits-at t) put-digits.Post
-put-digits-requires t c κs =
-    let s = c .before .before .before in
-    let more = length-more (s .args .x) (omega arith) in
-    (omega (arith, s .pre .0), omega (arith, s .pre .1))
+put-digits-requires t c κs = (omega (arith, c .before .before .before .pre .0), tt)
 
 add-put-byte-2 : (t : ℕ) → put-digits-lts.Need-add-put-byte-2 (calls t) (put-digits-at t) put-digits.Post
 add-put-byte-2 t c = search needs
@@ -60,19 +56,16 @@ cast-put-byte-2 : (t : ℕ) → put-digits-lts.Need-cast-put-byte-2 (calls t) (p
 cast-put-byte-2 t c = search needs
 
 put-byte-requires-2 : (t : ℕ) → put-digits-lts.Need-put-byte-requires-2 (calls t) (put-digits-at t) put-digits.Post
-put-byte-requires-2 t c κs =
-    let i = c .before .before .before .before .before in
-    let s = i .before .before in
-    omega (arith, s .pre .1, c .before .before .before .put-digits .ensures .past, length-more (s .args .x) (omega arith))
+put-byte-requires-2 t c κs = search needs
 
 same-length-2 : (t : ℕ) → put-digits-lts.Need-same-length-2 (calls t) (put-digits-at t) put-digits.Post
 same-length-2 t c = search needs
 
 returns-2 : (t : ℕ) → put-digits-lts.Need-returns-2 (calls t) (put-digits-at t) put-digits.Post
+unfolding put
 returns-2 t c =
-    let p = c .before .before .before .before .before .before in
-    let i = p .before .before in
-    put-as (sym (digits-more (i .before .before .args .x) (omega arith))) (puts (p .put-digits .ensures) (c .before .before .put-byte2 .ensures))
+    let x = c .before .before .before .before .before .before .before .before .before .before .args .x in
+    rw (digits-more x (omega arith), put-then) (cc)
 
 pub +put-digits-spec : {M : Type 1} → statement M
 +put-digits-spec = close μ-put-digits λ t. put-digits-lts.spec (calls t)

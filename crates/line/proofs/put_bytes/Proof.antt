@@ -1,53 +1,50 @@
--- `put_bytes` meets its contract: the bytes passed are put. Assumes nothing.
-use mathlib.Core.Path.{refl}
-use Prim.Native.Nat.{_+_, _-_, _≤_}
+-- `put_bytes` meets its contract: what is left, put from here, gives what all gives. Assumes nothing.
+use mathlib.Core.Path.{_≡_, refl, _∙_}
+use Prim.Native.Nat.{_-_, _≤_}
 use native.Mathlib.Omega.{arith}
-use lib.ListN.{length, take}
-use lib.Seq.{take-all}
-use Rattle.line.specs.Text.{Put}
-use Rattle.line.proofs.Puts.{put-next, put-as, put-length}
+use borrow.Author.Needs.{needs}
+use lib.ListN.{length, drop}
+use lib.Seq.{drop-length}
+use Rattle.line.specs.Text.{outOf, put}
+use Rattle.line.proofs.Puts.{put-next, going-length}
 use Rattle.line.proofs.put_bytes.Statement.{statement}
 use Rattle.line.proofs.put_bytes.Tie as tie
 
 abbrev Inv-loop : tie.InvT-loop
-Inv-loop out₀ at text i₀ out i = Put out₀ at (take i text) out (at + i) × (i ≤ length text)
+Inv-loop out₀ at text next₀ i₀ xs next i = (put (outOf xs next) (drop i text) ≡ put (outOf out₀ at) text) × (i ≤ length text)
 
 abbrev μ-loop : tie.MeasureT-loop
-μ-loop out₀ at text i₀ out i = length text - i
+μ-loop out₀ at text next₀ i₀ xs next i = length text - i
 
 loop-holds : tie.Need-loop-holds Inv-loop μ-loop
-loop-holds c = (record { past = refl; bytes = refl }, omega arith)
+loop-holds c = (refl, omega arith)
 
-shared-slice-read-out : tie.Need-shared-slice-read-out Inv-loop μ-loop
-shared-slice-read-out c = omega arith
+shared-slice-read-put-byte : tie.Need-shared-slice-read-put-byte Inv-loop μ-loop
+shared-slice-read-put-byte c = search needs
 
-add-out : tie.Need-add-out Inv-loop μ-loop
-add-out c = omega arith
-
-slice-write-out : tie.Need-slice-write-out Inv-loop μ-loop
-slice-write-out c = omega (arith, put-length (c .before .before .loop .inv .0))
+put-byte-requires : tie.Need-put-byte-requires Inv-loop μ-loop
+put-byte-requires c κs = search needs
 
 add-i : tie.Need-add-i Inv-loop μ-loop
-add-i c = omega arith
+add-i c = search needs
 
 loop-less : tie.Need-loop-less Inv-loop μ-loop
-loop-less c = omega arith
+loop-less c = search needs
 
 loop-again : tie.Need-loop-again Inv-loop μ-loop
 loop-again c =
-    let b = c .before .before in
-    (put-next (b .before .args .text .now) (b .before .args .at) (b .loop .i) (c .before .loop-test .taken) (b .loop .inv .0), omega arith)
-
-add-result : tie.Need-add-result Inv-loop μ-loop
-add-result c = omega arith
+    let l = c .before .before .before .before .before .before in
+    (put-next _ _ (l .before .before .before .args .text .now) (l .loop .i) (omega arith) (c .before .before .put-byte .ensures) ∙ l .loop .inv .0, omega arith)
 
 same-length : tie.Need-same-length Inv-loop μ-loop
-same-length c = put-length (c .before .loop .inv .0)
+same-length c = going-length _ _ _ _ (c .before .loop .inv .0)
 
 returns : tie.Need-returns Inv-loop μ-loop
+unfolding put
 returns c =
-    let b = c .before in
-    put-as (take-all (b .loop .i) (b .before .args .text .now) (c .loop-test .left)) (b .loop .inv .0)
+    let t = c .before .before .before .before .args .text .now in
+    let done : c .before .loop .i ≡ length t = omega arith in
+    rw (done, drop-length t) at (c .before .loop .inv .0)
 
 pub put-bytes-spec : {M : Type 1} → statement M
 put-bytes-spec =
@@ -56,12 +53,10 @@ put-bytes-spec =
     Inv-loop
     μ-loop
     loop-holds
-    shared-slice-read-out
-    add-out
-    slice-write-out
+    shared-slice-read-put-byte
+    put-byte-requires
     add-i
     loop-less
     loop-again
-    add-result
     same-length
     returns)

@@ -1,12 +1,9 @@
 -- `put_decimal` meets its contract. Assumes nothing.
-use mathlib.Core.Path.{_≡_, ap}
+use mathlib.Core.Path.{_≡_}
 use mathlib.Core.List.{_∷_}
-use native.Mathlib.Omega.{arith}
 use borrow.Author.Needs.{needs}
-use lib.ListN.{length}
 use mir.Facts.{toZ-ofZ}
-use Rattle.line.specs.Text.{minus, digits, decimal}
-use Rattle.line.proofs.Puts.{puts, put-as}
+use Rattle.line.specs.Text.{minus, digits, decimal, put}
 use Rattle.line.proofs.Signs.{minus-first, no-minus}
 use Rattle.line.proofs.put_decimal.Statement.{statement}
 use Rattle.line.proofs.put_decimal.Tie as tie
@@ -22,27 +19,26 @@ magnitude-requires : tie.Need-magnitude-requires
 magnitude-requires c κs = search needs
 
 put-byte-requires : tie.Need-put-byte-requires
-put-byte-requires c κs = omega (arith, ap length (signed (c .before)))
+put-byte-requires c κs = search needs
 
 put-digits-requires : tie.Need-put-digits-requires
-put-digits-requires c κs = omega (arith, ap length (signed (c .before .before .before .before .before)))
+put-digits-requires c κs = search needs
 
 same-length : tie.Need-same-length
 same-length c = search needs
 
 returns : tie.Need-returns
-returns c =
-    let p = c .before .before .before .before .before .before in
-    put-as (signed (p .before .before)) (puts (p .put-byte .ensures) (c .before .before .put-digits .ensures))
+unfolding put
+returns c = rw (← signed (c .before .before .before .before .before .before .before .before)) (cc)
 
 put-digits-requires-2 : tie.Need-put-digits-requires-2
-put-digits-requires-2 c κs = omega (arith, ap length (plain (c .before)))
+put-digits-requires-2 c κs = search needs
 
 same-length-2 : tie.Need-same-length-2
 same-length-2 c = search needs
 
 returns-2 : tie.Need-returns-2
-returns-2 c = put-as (plain (c .before .before .before .before)) (c .before .before .put-digits2 .ensures)
+returns-2 c = rw (← plain (c .before .before .before .before)) (c .before .before .put-digits2 .ensures)
 
 pub put-decimal-spec : {M : Type 1} → statement M
 put-decimal-spec =

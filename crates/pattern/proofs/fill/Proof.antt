@@ -10,7 +10,7 @@ use mir.Syntax.{w64}
 use mir.Val.{toZ}
 use mir.Facts.{toZ-ofZ}
 use Rattle.pattern.specs.Pattern.{longest}
-use Rattle.pattern.specs.Scan.{Near, filled}
+use Rattle.pattern.specs.Inner.Scan.{Near, filled}
 use Rattle.pattern.proofs.Offsets.{near-more}
 use Rattle.pattern.proofs.Loops.{on-held, near-turn, least-bit, fill-turn, fill-end}
 use Rattle.pattern.proofs.fill.Statement.{statement}

@@ -5,10 +5,9 @@ use borrow.Author.Tests.{not-true, not-false}
 use native.Mathlib.Omega.{arith}
 use mathlib.Core.Path.{sym, _∙_}
 use Rattle.envelope.specs.declared.Envelope.{Envelope}
-use Rattle.pattern.specs.Answer.{firstAnswer, firstBytes}
 use Rattle.pattern.proofs.Offsets.{near-start}
 use Rattle.pattern.proofs.Replies.{is-taken}
-use Rattle.pattern.proofs.Answers.{heldOf, both-given, first-none, first-long, first-done}
+use Rattle.pattern.proofs.Answers.{heldOf, firsts-given, first-none, first-long, first-done}
 use Rattle.pattern.proofs.first.Statement.{statement}
 use Rattle.pattern.proofs.first.Tie as tie
 
@@ -22,14 +21,14 @@ returns : tie.Need-returns
 returns c =
     let f = c .before in
     let s = f .before .before in
-    both-given (s .args .k) (s .args .K) (s .args .l) (s .args .n) (s .fits .k) (s .fits .K) firstAnswer firstBytes
+    firsts-given (s .args .k) (s .args .K) (s .args .l) (s .args .n) (s .fits .k) (s .fits .K)
     (first-none (held s) (s .args .pattern .now) (sym (f .is-taken .ensures) ∙ not-true (f .is-taken .result) (c .if1 .taken)))
 
 returns-2 : tie.Need-returns-2
 returns-2 c =
     let f = c .before .before in
     let s = f .before .before in
-    both-given (s .args .k) (s .args .K) (s .args .l) (s .args .n) (s .fits .k) (s .fits .K) firstAnswer firstBytes
+    firsts-given (s .args .k) (s .args .K) (s .args .l) (s .args .n) (s .fits .k) (s .fits .K)
     (first-long (held s) (s .args .pattern .now) (sym (f .is-taken .ensures) ∙ not-false (f .is-taken .result) (c .before .if1 .left)) (c .if2 .taken))
 
 fill-requires : tie.Need-fill-requires
@@ -48,7 +47,7 @@ returns-3 c =
     let t = w .before .before in
     let f = t .before .before in
     let s = f .before .before in
-    both-given (s .args .k) (s .args .K) (s .args .l) (s .args .n) (s .fits .k) (s .fits .K) firstAnswer firstBytes
+    firsts-given (s .args .k) (s .args .K) (s .args .l) (s .args .n) (s .fits .k) (s .fits .K)
     (first-done (held s) (s .args .pattern .now) (sym (f .is-taken .ensures) ∙ not-false (f .is-taken .result) (t .before .if1 .left)) (t .if2 .left) (w .fill .last .1 .0) (w .fill .ensures))
 
 pub first-spec : {M : Type 1} → statement M

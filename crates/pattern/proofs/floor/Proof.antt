@@ -7,7 +7,7 @@ use mir.Syntax.{w64}
 use mir.Val.{toZ, ofZ}
 use Rattle.whole.proofs.Machine.{told, fits-by, back-by}
 use Rattle.envelope.proofs.Held.{k-held}
-use Rattle.pattern.specs.Scan.{stepOf}
+use Rattle.pattern.specs.Inner.Scan.{stepOf}
 use Rattle.pattern.proofs.Offsets.{floor-fits}
 use Rattle.pattern.proofs.floor.Statement.{statement}
 use Rattle.pattern.proofs.floor.Tie as tie

@@ -17,7 +17,7 @@ use Rattle.whole.proofs.Machine.{held}
 use Rattle.envelope.specs.Limits.{lMost}
 use Rattle.envelope.proofs.Held.{n-small, K-held}
 use Rattle.pattern.specs.Pattern.{longest}
-use Rattle.pattern.specs.Scan.{Near, scanned, floorOf}
+use Rattle.pattern.specs.Inner.Scan.{Near, scanned, floorOf}
 use Rattle.pattern.proofs.Offsets.{near-shows, floor-near}
 use Rattle.pattern.proofs.Loops.{lead-length}
 use Rattle.pattern.proofs.Sweeps.{lead-from, room-small, not-less, within-room}

@@ -6,7 +6,7 @@ use mathlib.Core.Path.{_≡_, refl, sym, ap, _∙_}
 use mathlib.Core.Logic.{⊎-elim}
 use lib.ListN.{length, drop, drop-of-length-le}
 use borrow.Author.Tests.{lt-ltb, le-ltb}
-use Rattle.pattern.specs.Scan.{largestFrom}
+use Rattle.pattern.specs.Inner.Scan.{largestFrom}
 use Rattle.pattern.proofs.Loops.{largest-turn}
 use Rattle.pattern.proofs.largest.Statement.{statement}
 use Rattle.pattern.proofs.largest.Tie as tie

@@ -12,7 +12,7 @@ use mir.Val.{toZ, ofZ}
 use mir.Facts.{toZ-ofZ}
 use Rattle.whole.proofs.Machine.{told}
 use Rattle.pattern.specs.Pattern.{longest}
-use Rattle.pattern.specs.Scan.{onward, reached, markOf}
+use Rattle.pattern.specs.Inner.Scan.{onward, reached, markOf}
 use Rattle.pattern.proofs.Offsets.{near-more, near-reached}
 use Rattle.pattern.proofs.Loops.{plain-before, offset-back, mark-found, mark-stays}
 use Rattle.pattern.proofs.last_mark.Statement.{statement}

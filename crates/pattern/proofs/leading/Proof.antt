@@ -6,7 +6,7 @@ use native.Mathlib.Nat.{pos-of-ne-zero}
 use native.Mathlib.Numerals.{add-one}
 use mathlib.Core.Path.{_≡_, ap}
 use lib.ListN.{length, drop, drop-of-length-le}
-use Rattle.pattern.specs.Scan.{leadingOf}
+use Rattle.pattern.specs.Inner.Scan.{leadingOf}
 use Rattle.pattern.proofs.Loops.{lead-go, lead-stop}
 use Rattle.pattern.proofs.leading.Statement.{statement}
 use Rattle.pattern.proofs.leading.Tie as tie

@@ -3,7 +3,7 @@
 use borrow.Author.Needs.{needs}
 use mathlib.Core.Path.{ap, _∙_}
 use mir.Facts.{toZ-ofZ}
-use Rattle.pattern.specs.Scan.{oneAt, zeroAt}
+use Rattle.pattern.specs.Inner.Scan.{oneAt, zeroAt}
 use native.Mathlib.Nat.{pos-of-ne-zero}
 use Rattle.pattern.proofs.Offsets.{may-one}
 use Rattle.pattern.proofs.may_follow.Statement.{statement}

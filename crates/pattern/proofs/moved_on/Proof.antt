@@ -7,7 +7,7 @@ use mir.Facts.{toZ-ofZ}
 use mir.Syntax.{w64}
 use mir.Val.{toZ, ofZ}
 use Rattle.whole.proofs.Machine.{told, fits-by, back-by}
-use Rattle.pattern.specs.Scan.{stepOf}
+use Rattle.pattern.specs.Inner.Scan.{stepOf}
 use Rattle.pattern.proofs.Offsets.{on-fits}
 use Rattle.pattern.proofs.moved_on.Statement.{statement}
 use Rattle.pattern.proofs.moved_on.Tie as tie

@@ -6,9 +6,8 @@ use mathlib.Core.Path.{_≡_, sym, _∙_}
 use lib.ListN.{length-set}
 use Rattle.envelope.specs.declared.Envelope.{Envelope}
 use Rattle.pattern.specs.declared.Judged.the-variants.{Sound}
-use Rattle.pattern.specs.Scan.{judged}
-use Rattle.pattern.specs.Answer.{nextAnswer, nextBytes}
-use Rattle.pattern.proofs.Answers.{heldOf, both-given, next-bad, next-last, next-done, within, short, taken, all-bits, end-held, near-held-mark, near-after}
+use Rattle.pattern.specs.Inner.Scan.{judged}
+use Rattle.pattern.proofs.Answers.{heldOf, nexts-given, next-bad, next-last, next-done, within, short, taken, all-bits, end-held, near-held-mark, near-after}
 use Rattle.pattern.proofs.next.Statement.{statement}
 use Rattle.pattern.proofs.next.Tie as tie
 
@@ -45,7 +44,7 @@ returns c =
     let w = c .before in
     let a = w .before in
     let s = a .before .before .before .before .before .before .before in
-    both-given (s .args .k) (s .args .K) (s .args .l) (s .args .n) (s .fits .k) (s .fits .K) nextAnswer nextBytes
+    nexts-given (s .args .k) (s .args .K) (s .args .l) (s .args .n) (s .fits .k) (s .fits .K)
     (next-last (held s) (s .args .pattern .now) (a .before .before .end .given .0 .0) (sound a) (w .last-mark .result) (w .last-mark .ensures) (c .if1 .taken))
 
 sub-pattern : tie.Need-sub-pattern
@@ -94,7 +93,7 @@ returns-2 c =
     let j = k .before .before in
     let s = j .before .before .before in
     let g = k .number .given in
-    both-given (s .args .k) (s .args .K) (s .args .l) (s .args .n) (s .fits .k) (s .fits .K) nextAnswer nextBytes
+    nexts-given (s .args .k) (s .args .K) (s .args .l) (s .args .n) (s .fits .k) (s .fits .K)
     (next-bad (held s) (s .args .pattern .now) (g .0 .0) (g .0 .1 .0) (sym (g .1) ∙ j .judge .ensures))
 
 same-length-3 : tie.Need-same-length-3
@@ -108,7 +107,7 @@ returns-3 c =
     let w = t .before in
     let a = w .before in
     let s = a .before .before .before .before .before .before .before in
-    both-given (s .args .k) (s .args .K) (s .args .l) (s .args .n) (s .fits .k) (s .fits .K) nextAnswer nextBytes
+    nexts-given (s .args .k) (s .args .K) (s .args .l) (s .args .n) (s .fits .k) (s .fits .K)
     (next-done (held s) (s .args .pattern .now) (a .before .before .end .given .0 .0) (sound a) (w .last-mark .result) (w .last-mark .ensures) (t .if1 .left) (o .moved-on .result) (o .moved-on .ensures) (f .fill .last .1 .0) (f .fill .ensures))
 
 pub next-spec : {M : Type 1} → statement M

@@ -7,7 +7,7 @@ use mir.Syntax.{w64}
 use mir.Val.{toZ, ofZ}
 use mir.Facts.{toZ-ofZ}
 use Rattle.envelope.proofs.Held.{k-held, K-held}
-use Rattle.pattern.specs.Scan.{oneAt}
+use Rattle.pattern.specs.Inner.Scan.{oneAt}
 use Rattle.pattern.proofs.one_at.Statement.{statement}
 use Rattle.pattern.proofs.one_at.Tie as tie
 

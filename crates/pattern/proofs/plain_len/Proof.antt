@@ -6,7 +6,7 @@ use native.Mathlib.Numerals.{add-one}
 use mathlib.Core.Path.{_≡_, sym, ap}
 use lib.ListN.{length, drop, drop-of-length-le}
 use Rattle.pattern.specs.Pattern.{plain}
-use Rattle.pattern.specs.Scan.{largestFrom}
+use Rattle.pattern.specs.Inner.Scan.{largestFrom}
 use Rattle.pattern.proofs.Loops.{largest-plain, plain-go, plain-stop}
 use Rattle.pattern.proofs.plain_len.Statement.{statement}
 use Rattle.pattern.proofs.plain_len.Tie as tie

@@ -9,7 +9,7 @@ use mir.Syntax.{w64}
 use mir.Val.{toZ}
 use borrow.Author.Tests.{not-true, not-false}
 use Rattle.pattern.specs.Pattern.{longest}
-use Rattle.pattern.specs.Scan.{Near, scanned}
+use Rattle.pattern.specs.Inner.Scan.{Near, scanned}
 use Rattle.pattern.proofs.Offsets.{near-start, near-more}
 use Rattle.pattern.proofs.Loops.{plain-before, on-held, near-turn, scan-stop, scan-turn}
 use Rattle.pattern.proofs.scan.Statement.{statement}

@@ -7,7 +7,7 @@ use lib.IntN.{pos, _+ℤ_}
 use lib.ListN.{length, drop, getD, drop-of-length-le}
 use Rattle.envelope.specs.Limits.{lMost}
 use Rattle.envelope.proofs.Held.{n-small}
-use Rattle.pattern.specs.Scan.{scanned, floorOf}
+use Rattle.pattern.specs.Inner.Scan.{scanned, floorOf}
 use Rattle.pattern.proofs.Offsets.{product-most}
 use Rattle.pattern.proofs.Loops.{plain-before, scan-turn}
 use Rattle.pattern.proofs.Sweeps.{on-floor, may-floor, room-small, not-wrapped}

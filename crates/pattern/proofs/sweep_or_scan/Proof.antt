@@ -13,7 +13,7 @@ use Rattle.envelope.proofs.Held.{K-held}
 use Rattle.pattern.specs.declared.Judged.{Judged}
 use Rattle.pattern.specs.declared.Judged.the-variants.{Sound}
 use Rattle.pattern.specs.Pattern.{longest}
-use Rattle.pattern.specs.Scan.{Near, floorOf}
+use Rattle.pattern.specs.Inner.Scan.{Near, floorOf}
 use Rattle.pattern.proofs.Offsets.{near-reads, K-near, floor-near, floor-below}
 use Rattle.pattern.proofs.Sweeps.{room-small}
 use Rattle.pattern.proofs.sweep_or_scan.Statement.{statement}

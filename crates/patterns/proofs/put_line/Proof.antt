@@ -3,6 +3,7 @@ use mathlib.Core.Path.{sym}
 use native.Mathlib.Omega.{arith}
 use lib.ListN.{length}
 use lib.Seq.{length-take-le}
+use Rattle.line.proofs.Puts.{put-at}
 use Rattle.terminal.proofs.Lines.{bits-length}
 use borrow.Author.Needs.{needs}
 use Rattle.patterns.proofs.put_line.Statement.{statement}
@@ -41,11 +42,7 @@ enum-known-start c = search needs
 
 -- src/main.rt:46:39
 put-bits-requires : tie.Need-put-bits-requires
-put-bits-requires c κs =
-    let a = c .before .before .before .before .before .before .before .before .args in
-    let all = length-take-le (length (a .out .now)) (a .out .now) (omega arith) in
-    let room = rw (c .before .before .start .given .1) at (c .before .before .before .before .with-room .ensures) in
-    omega (arith, bits-length (a .bits .now))
+put-bits-requires c κs = tt
 
 -- src/main.rt:39:1
 same-length : tie.Need-same-length
@@ -65,7 +62,7 @@ returns-2 c =
     let a = c .before .before .before .before .before .before .before .before .before .before .before .args in
     let all = length-take-le (length (a .out .now)) (a .out .now) (omega arith) in
     let room = rw (c .before .before .before .before .before .start .given .1) at (c .before .before .before .before .before .before .before .with-room .ensures) in
-    omega (arith, bits-length (a .bits .now), c .before .before .put-bits .ensures .past)
+    omega (arith, bits-length (a .bits .now), put-at _ _ _ (c .before .before .before .before .before .start .given .0 .0) _ (omega arith) (c .before .before .put-bits .ensures))
 
 pub put-line-spec : {M : Type 1} → statement M
 put-line-spec =

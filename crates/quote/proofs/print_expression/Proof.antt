@@ -2,7 +2,7 @@
 use mathlib.Core.Path.{sym}
 use native.Mathlib.Omega.{arith}
 use lib.Seq.{length-take-le}
-use Rattle.line.proofs.Puts.{put-length}
+use Rattle.line.proofs.Puts.{put-at, put-length}
 use Rattle.terminal.proofs.Lines.{hex-length}
 use borrow.Author.Needs.{needs}
 use Rattle.quote.proofs.print_expression.Statement.{statement}
@@ -23,7 +23,7 @@ slice-aggregate-put-hex c = search needs
 
 -- src/main.rt:18:9
 put-hex-requires : tie.Need-put-hex-requires
-put-hex-requires c κs = omega (arith, hex-length (c .before .before .before .args .expression .now))
+put-hex-requires c κs = tt
 
 -- src/main.rt:19:21
 slice-aggregate-print : tie.Need-slice-aggregate-print
@@ -31,12 +31,12 @@ slice-aggregate-print c = search needs
 
 -- src/main.rt:19:31
 array-share-prefix-text : tie.Need-array-share-prefix-text
-array-share-prefix-text c = omega (arith, hex-length (c .before .before .before .before .before .before .args .expression .now), c .before .before .put-hex .ensures .past, put-length (c .before .before .put-hex .ensures))
+array-share-prefix-text c = omega (arith, hex-length (c .before .before .before .before .before .before .args .expression .now), put-at _ _ _ 0 _ (omega arith) (c .before .before .put-hex .ensures), put-length _ _ _ _ _ (c .before .before .put-hex .ensures))
 
 -- src/main.rt:19:31
 slice-aggregate-print-2 : tie.Need-slice-aggregate-print-2
 slice-aggregate-print-2 c =
-    sym (length-take-le _ _ (omega (arith, hex-length (c .before .before .before .before .before .before .before .args .expression .now), c .before .before .before .put-hex .ensures .past, put-length (c .before .before .before .put-hex .ensures))))
+    sym (length-take-le _ _ (omega (arith, hex-length (c .before .before .before .before .before .before .before .args .expression .now), put-at _ _ _ 0 _ (omega arith) (c .before .before .before .put-hex .ensures), put-length _ _ _ _ _ (c .before .before .before .put-hex .ensures))))
 
 -- src/main.rt:19:5
 print-requires : tie.Need-print-requires

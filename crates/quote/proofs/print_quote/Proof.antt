@@ -34,7 +34,7 @@ print-refused-requires c κs = search needs
 print-expression-requires : tie.Need-print-expression-requires
 print-expression-requires c κs =
     let a = c .before .before .before .args in
-    omega (arith, ap length (c .before .quote .ensures .0), part-short (quotingOf (a .sheet .now) (a .clock)) (a .sheet .now))
+    omega (arith, ap length (c .before .quote .ensures .part-is), part-short (quotingOf (a .sheet .now) (a .clock)) (a .sheet .now))
 
 -- src/main.rt:23:1
 returns : tie.Need-returns

@@ -10,7 +10,7 @@ use borrow.Author.Needs.{needs}
 use Rattle.field.specs.Field.{fieldOf}
 use Rattle.field.specs.Read.{mapped}
 use Rattle.register.specs.Locating.{placeOf, locatedIn}
-use Rattle.register.proofs.Finds.{at-within, close-refused, close-already, close-open}
+use Rattle.register.proofs.Finds.{at-within, closes-by, close-refused, close-already, close-open}
 use Rattle.register.proofs.close.Statement.{statement}
 use Rattle.register.proofs.close.Tie as tie
 use Rattle.register.proofs.close.Reads as reads
@@ -48,7 +48,7 @@ same-length c = search needs
 returns : tie.Need-returns
 returns c =
     let f = c .before .before .before .before .before in
-    rw (close-already _ _ _ (told f) (λ j. f .before .before .slice-known .given j .fits) _ _ (c .before .before .before .at .given .1) (c .if1 .taken)) (refl, refl)
+    closes-by (close-already _ _ _ (told f) (λ j. f .before .before .slice-known .given j .fits) _ _ (c .before .before .before .at .given .1) (c .if1 .taken)) refl refl
 
 slice-write-sheet : tie.Need-slice-write-sheet
 slice-write-sheet c = within (c .before .before)
@@ -57,7 +57,7 @@ same-length-2 : tie.Need-same-length-2
 same-length-2 c = search needs
 
 returns-2 : tie.Need-returns-2
-returns-2 c = rw (close-refused _ _ _ (told (c .before .before .before)) _ _ (c .before .number .given .1)) (refl, refl)
+returns-2 c = closes-by (close-refused _ _ _ (told (c .before .before .before)) _ _ (c .before .number .given .1)) refl refl
 
 same-length-3 : tie.Need-same-length-3
 same-length-3 c = search needs
@@ -65,7 +65,7 @@ same-length-3 c = search needs
 returns-3 : tie.Need-returns-3
 returns-3 c =
     let f = c .before .before .before .before .before in
-    rw (close-open _ _ _ (told f) (λ j. f .before .before .slice-known .given j .fits) _ _ (c .before .before .before .at .given .1) (c .if1 .left)) (refl, refl)
+    closes-by (close-open _ _ _ (told f) (λ j. f .before .before .slice-known .given j .fits) _ _ (c .before .before .before .at .given .1) (c .if1 .left)) refl refl
 
 pub close-spec : {M : Type 1} → statement M
 close-spec =

@@ -6,7 +6,7 @@ use native.Mathlib.Omega.{arith}
 use denote.Ref.{now}
 use lib.ListN.{length, getD}
 use borrow.Author.Needs.{needs}
-use Rattle.register.specs.Skipping.{HasExpr}
+use Rattle.register.specs.Inner.Skipping.{HasExpr}
 use Rattle.register.proofs.Skips.{Left, own-some, left-start, left-within, left-next, left-none}
 use Rattle.register.proofs.past.Statement.{statement}
 use Rattle.register.proofs.past.Tie as tie

@@ -5,7 +5,7 @@ use native.Mathlib.Omega.{arith}
 use denote.Ref.{now}
 use lib.ListN.{length}
 use borrow.Author.Needs.{needs}
-use Rattle.register.proofs.Finds.{quote-refused, quote-there, quote-within}
+use Rattle.register.proofs.Finds.{quotes-by, quote-refused, quote-there, quote-within}
 use Rattle.register.proofs.quote.Statement.{statement}
 use Rattle.register.proofs.quote.Tie as tie
 use Rattle.register.proofs.quote.Reads as reads
@@ -41,12 +41,12 @@ part-result-end : tie.Need-part-result-end
 part-result-end c = within c .1
 
 returns : tie.Need-returns
-returns c = rw (quote-refused _ _ _ (c .before .before .before .find .ensures) _ _ (c .before .enum-told .given .1)) (refl, (refl, search needs))
+returns c = quotes-by (quote-refused _ _ _ (c .before .before .before .find .ensures) _ _ (c .before .enum-told .given .1)) refl refl (search needs)
 
 returns-2 : tie.Need-returns-2
 returns-2 c =
     let f = c .before .before .before .before in
-    rw (quote-there _ _ _ (f .find .ensures) (λ j. f .before .shared-slice-known .given j .fits) _ _ (c .before .before .at .given .1)) (refl, (refl, search needs))
+    quotes-by (quote-there _ _ _ (f .find .ensures) (λ j. f .before .shared-slice-known .given j .fits) _ _ (c .before .before .at .given .1)) refl refl (search needs)
 
 pub quote-spec : {M : Type 1} → statement M
 quote-spec =

@@ -6,7 +6,7 @@ use denote.Ref.{now}
 use lib.ListN.{length}
 use Rattle.field.specs.Read.{Read.got}
 use Rattle.sheet.specs.Reader.{linkAt}
-use Rattle.sheet.specs.Sections.{endsOf}
+use Rattle.sheet.specs.Inner.Sections.{endsOf}
 use Rattle.sheet.proofs.LinkRows.{ends-there}
 use Rattle.report.proofs.LinkRows.{next-none, next-there}
 use borrow.Author.Needs.{needs}

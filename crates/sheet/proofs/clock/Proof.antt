@@ -3,7 +3,7 @@
 use native.Mathlib.Omega.{arith}
 use borrow.Author.Needs.{needs}
 use Rattle.field.proofs.Fields.{there}
-use Rattle.sheet.specs.Sections.{markedAt}
+use Rattle.sheet.specs.Inner.Sections.{markedAt}
 use Rattle.sheet.proofs.clock.Statement.{statement}
 use Rattle.sheet.proofs.clock.Tie as tie
 

@@ -9,8 +9,8 @@ use lib.ListN.{length, length-set}
 use lib.Seq.{length-take-le}
 use Rattle.field.specs.declared.Field.{Field}
 use Rattle.envelope.specs.Envelope.{Taken}
-use Rattle.expression.specs.Table.{nodesIn}
-use Rattle.sheet.specs.Sections.{markedOf}
+use Rattle.expression.specs.Inner.Nodes.{nodesIn}
+use Rattle.sheet.specs.Inner.Sections.{markedOf}
 use Rattle.sheet.proofs.NodeTables.{stored-holds}
 use Rattle.sheet.proofs.ClockTable.{Kept, mark-taken, kept-none, kept-more, kept-refused, kept-all, clocks-refused}
 use Rattle.sheet.proofs.clock_rows.Statement.{statement}

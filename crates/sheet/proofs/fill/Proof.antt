@@ -11,9 +11,9 @@ use Rattle.field.specs.Read.{Read.got}
 use Rattle.field.proofs.Read.{refused-got}
 use Rattle.link.specs.declared.Row.{Row}
 use Rattle.link.specs.Link.{sizeIn}
-use Rattle.expression.specs.Table.{nodesIn}
+use Rattle.expression.specs.Inner.Nodes.{nodesIn}
 use Rattle.sheet.specs.Reader.{linkAt}
-use Rattle.sheet.specs.Sections.{endsOf}
+use Rattle.sheet.specs.Inner.Sections.{endsOf}
 use Rattle.sheet.proofs.Readings.{reached-refused}
 use Rattle.sheet.proofs.LinkRows.{link-anywhere, ends-there, row-small, open-most}
 use Rattle.sheet.proofs.Written.{Written, written-none, written-more, written-all}

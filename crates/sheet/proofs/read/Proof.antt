@@ -8,7 +8,7 @@ use denote.Ref.{now}
 use lib.ListN.{length}
 use lib.Seq.{length-take-le}
 use Rattle.sheet.specs.Sheet.{wordsMost}
-use Rattle.sheet.specs.Sections.{refusedOf}
+use Rattle.sheet.specs.Inner.Sections.{refusedOf}
 use Rattle.sheet.proofs.Stages.{too-long, answer-refused, stop-at-words, few-words, words-hold, stop-at-count, few-clocks, stop-at-clocks, stop-at-links, stop-at-end, answer-whole, links-place}
 use Rattle.sheet.proofs.read.Statement.{statement}
 use Rattle.sheet.proofs.read.Tie as tie

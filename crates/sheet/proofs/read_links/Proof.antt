@@ -6,7 +6,7 @@ use native.Mathlib.Omega.{arith}
 use borrow.Author.Needs.{needs}
 use Rattle.field.specs.Field.{fieldOf}
 use Rattle.sheet.specs.Reader.{linkAt}
-use Rattle.sheet.specs.Sections.{endsOf}
+use Rattle.sheet.specs.Inner.Sections.{endsOf}
 use Rattle.sheet.proofs.Readings.{Reached, reached-none, reached-more, reached-refused}
 use Rattle.sheet.proofs.LinkRows.{link-anywhere, links-none, links-refused, links-got}
 use Rattle.sheet.proofs.read_links.Statement.{statement}

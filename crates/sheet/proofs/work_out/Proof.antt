@@ -10,8 +10,9 @@ use lib.Seq.{length-take-le}
 use Rattle.field.specs.Read.{Read.got}
 use Rattle.field.specs.Spelling.{AllBytes}
 use Rattle.sheet.specs.Sheet.{clocksMost}
-use Rattle.sheet.specs.Reader.{Opened, readSheet}
-use Rattle.sheet.specs.Sections.{foundOf}
+use Rattle.sheet.specs.Reader.{readSheet}
+use Rattle.sheet.specs.Opened.{Opened}
+use Rattle.sheet.specs.Inner.Sections.{foundOf}
 use Rattle.sheet.proofs.Outcome.{reading-refused, reading-whole, out-refused, not-read, short-clocks, short-links, clocks-few, links-few, ready, out-done}
 use Rattle.sheet.proofs.work_out.Statement.{statement}
 use Rattle.sheet.proofs.work_out.Tie as tie
@@ -61,7 +62,7 @@ refuse-requires-2 c κs = search needs
 returns : tie.Need-returns
 returns c =
     let w = whole (c .before .before) in
-    out-refused _ _ _ _ _ _ _ _ (short-clocks _ _ _ (w .0) (w .1) (w .2) _ (w .3) (c .before .if1 .taken)) (c .refuse2 .ensures)
+    out-refused _ _ _ _ _ _ (short-clocks _ _ _ (w .0) (w .1) (w .2) _ (w .3) (c .before .if1 .taken)) (c .refuse2 .ensures)
 
 mul-if2 : tie.Need-mul-if2
 mul-if2 c =
@@ -74,7 +75,7 @@ refuse-requires-3 c κs = search needs
 returns-2 : tie.Need-returns-2
 returns-2 c =
     let w = whole (c .before .before .before) in
-    out-refused _ _ _ _ _ _ _ _ (short-links _ _ _ (w .0) (w .1) (w .2) _ (w .3) (c .before .before .if1 .left) (c .before .if2 .taken)) (c .refuse3 .ensures)
+    out-refused _ _ _ _ _ _ (short-links _ _ _ (w .0) (w .1) (w .2) _ (w .3) (c .before .before .if1 .left) (c .before .if2 .taken)) (c .refuse3 .ensures)
 
 array-share-prefix-table : tie.Need-array-share-prefix-table
 array-share-prefix-table c = table-fits (c .before .before)
@@ -106,7 +107,7 @@ fill-requires c κs =
 
 returns-3 : tie.Need-returns-3
 returns-3 c =
-    out-refused _ _ _ _ _ _ _ _
+    out-refused _ _ _ _ _ _
     (not-read _ _ _ _ _ (reading-refused _ _ _ (sym (c .before .before .number .given .1) ∙ c .before .before .before .before .before .before .read .ensures .0)))
     (c .refuse .ensures)
 
@@ -120,8 +121,8 @@ returns-4 : tie.Need-returns-4
 returns-4 c =
     let w = whole (c .before .before .before .before .before .before .before .before .before .before .before) in
     let a = c .before .before .before .before .before .before .before .before .before .before .before .before .before .before .before .before .before .before .before .before in
-    out-done _ (bytes (c .before .before .before .before .before .before .before .before .before .before .before)) (w .0) (w .1) (w .2) _ (w .3) _ _ (c .before .before .before .before .before .before .before .before .before .before .before .before .before .before .before .before .read .ensures .1) _ _ (c .before .before .before .before .before .before .before .before .before .before .if1 .left) (c .before .before .before .before .before .before .before .before .before .if2 .left)
-    (c .before .fill .result) (now (a .args .clocks)) _ (now (a .args .links)) _ (c .before .before .before .before .before .before .copy .ensures) (c .before .fill .ensures .0) (c .before .fill .ensures .1)
+    out-done _ (bytes (c .before .before .before .before .before .before .before .before .before .before .before)) (w .0) (w .1) (w .2) _ (w .3) _ _ (c .before .before .before .before .before .before .before .before .before .before .before .before .before .before .before .before .read .ensures .1) (c .before .fill .result) (now (a .args .clocks)) _ (now (a .args .links)) _ (c .before .before .before .before .before .before .before .before .before .before .if1 .left) (c .before .before .before .before .before .before .before .before .before .if2 .left)
+    (c .before .before .before .before .before .before .copy .ensures) (c .before .fill .ensures .0) (c .before .fill .ensures .1)
 
 pub work-out-spec : {M : Type 1} → statement M
 work-out-spec =

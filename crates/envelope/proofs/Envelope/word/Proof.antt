@@ -16,7 +16,7 @@ use Rattle.envelope.specs.declared.Envelope.{Envelope}
 use Rattle.envelope.specs.declared.Span.{Span}
 use Rattle.envelope.specs.Envelope.{resultOf}
 use Rattle.envelope.specs.Word.{bitAt, onesIn, wordOf}
-use Rattle.envelope.specs.Span.{spanOf}
+use Rattle.envelope.specs.Inner.Span.{spanOf}
 use Rattle.envelope.proofs.Spans.{word-span}
 use Rattle.envelope.proofs.Envelope.word.Statement.{statement}
 use Rattle.envelope.proofs.Envelope.word.Tie as tie

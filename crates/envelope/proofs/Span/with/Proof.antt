@@ -7,7 +7,7 @@ use lib.IntN.{ℤ}
 use mir.Facts.{toZ-ofZ}
 use Rattle.envelope.specs.declared.Span.{Span}
 use Rattle.whole.specs.Order.{larger, smaller}
-use Rattle.envelope.specs.Span.{withOf}
+use Rattle.envelope.specs.Inner.Span.{withOf}
 use Rattle.whole.proofs.Machine.{told}
 use borrow.Author.Needs.{needs}
 use Rattle.envelope.proofs.Span.with.Statement.{statement}

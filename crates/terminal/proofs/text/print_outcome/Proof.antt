@@ -1,53 +1,27 @@
--- `print_outcome` meets its contract.
-use mathlib.Core.Path.{sym}
+-- `print_outcome` meets its contract: the line is no longer than the buffer.
+use mathlib.Core.Path.{sym, _∙_}
 use native.Mathlib.Omega.{arith}
-use lib.Seq.{length-take-le}
-use Rattle.line.proofs.Puts.{put-length}
-use Rattle.terminal.proofs.Lines.{outcome-fits}
 use borrow.Author.Needs.{needs}
+use lib.Seq.{length-take-le}
+use Rattle.line.specs.Text.{outcomeFields}
+use Rattle.line.proofs.Puts.{put-line, put-at, put-length}
+use Rattle.terminal.proofs.Lines.{outcome-fits}
 use Rattle.terminal.proofs.text.print_outcome.Statement.{statement}
 use Rattle.terminal.proofs.text.print_outcome.Tie as tie
-use Rattle.terminal.proofs.text.print_outcome.Reads as reads
-use Rattle.terminal.proofs.text.print_outcome.Lts as lts
-use Rattle.line.proofs.put_outcome.Reads as put-outcome-reads
 
--- src/text.rt:93:25
-slice-aggregate-put-outcome : tie.Need-slice-aggregate-put-outcome
-slice-aggregate-put-outcome c = search needs
-
--- src/text.rt:93:9
-put-outcome-requires : tie.Need-put-outcome-requires
-put-outcome-requires c κs =
-    let a = c .before .before .before .args in
-    omega (arith, outcome-fits (a .word .now) (a .number) (a .place) (omega arith) (omega arith) (omega arith))
-
--- src/text.rt:94:40
-array-share-prefix-out : tie.Need-array-share-prefix-out
-array-share-prefix-out c =
+fits : tie.Need-array-share-prefix-out
+fits c =
     let a = c .before .before .before .before .before .args in
-    omega (arith, outcome-fits (a .word .now) (a .number) (a .place) (omega arith) (omega arith) (omega arith), put-length (c .before .put-outcome .ensures))
-
--- src/text.rt:94:40
-slice-aggregate-print : tie.Need-slice-aggregate-print
-slice-aggregate-print c =
-    let a = c .before .before .before .before .before .before .args in
-    sym (length-take-le (c .before .before .put-outcome .result) (c .before .before .put-outcome .last .0) (omega (arith, outcome-fits (a .word .now) (a .number) (a .place) (omega arith) (omega arith) (omega arith), put-length (c .before .before .put-outcome .ensures))))
-
--- src/text.rt:94:5
-print-requires : tie.Need-print-requires
-print-requires c κs = search needs
-
--- src/text.rt:89:1
-returns : tie.Need-returns
-returns c = search needs
+    let p = c .before .put-outcome .ensures ∙ put-line _ (a .word .now) (outcomeFields (a .number) (a .place)) in
+    omega (arith, outcome-fits (a .word .now) (a .number) (a .place) (omega arith) (omega arith) (omega arith), put-at _ _ _ 0 _ (omega arith) p, put-length _ _ _ _ _ p)
 
 pub print-outcome-spec : {M : Type 1} → statement M
 print-outcome-spec =
     tie.close
     (tie.spec
-    slice-aggregate-put-outcome
-    put-outcome-requires
-    array-share-prefix-out
-    slice-aggregate-print
-    print-requires
-    returns)
+    (λ c. search needs)
+    (λ c κs. tt)
+    fits
+    (λ c. sym (length-take-le _ _ (fits (c .before))))
+    (λ c κs. search needs)
+    (λ c. search needs))

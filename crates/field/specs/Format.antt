@@ -1,0 +1,69 @@
+-- What stands where in a text, and what refuses a text that doesn't keep to it: the table "Given exactly when / Place", without a reader.
+use mathlib.Core.Path.{_≡_}
+use mathlib.Core.Logic.{_⊎_}
+use mathlib.Core.List.{List}
+use Prim.Native.Nat.{ℕ, _+_, _≤_}
+use lib.IntN.{ℤ}
+use lib.Dec.{leb, ltb}
+use lib.ListN.{length}
+use Rattle.reply.specs.Numbers.{beyond}
+use Rattle.field.specs.Read.{Read, Read.got, Read.refused, bind, pick}
+use Rattle.field.specs.Field.{lowFirst, fieldAt, signed, betweenZ}
+
+-- what a test says of a piece: what it stands for, or the number that refuses it
+pub data Judged (A : Type 0) : Type 0 where
+  passes : A → Judged A
+  fails : ℕ → Judged A
+
+-- a piece of a text: nothing; a number in so many bytes; one piece and then what it asks for; a piece that is tested when it is complete
+pub data Format : Type 0 → Type 1 where
+  known : {A : Type 0} → A → Format A
+  field : ℕ → Format ℕ
+  then : {A B : Type 0} → Format A → (A → Format B) → Format B
+  tested : {A B : Type 0} → Format A → (A → Judged B) → Format B
+
+-- the bytes of s from a to c are such a piece, and it is right: x
+abbrev pub Piece : {A : Type 0} → List ℕ → Format A → ℕ → A → ℕ → Type 0
+Piece s (known x) a y c = (x ≡ y) × (a ≡ c)
+Piece s (field w) a v c = (a + w ≤ length s) × (lowFirst w s a ≡ v) × (a + w ≡ c)
+Piece s (then {A = A} t next) a y c = (x : A) × (b : ℕ) × Piece s t a x b × Piece s (next x) b y c
+Piece s (tested {A = A} t test) a y c = (x : A) × Piece s t a x c × (test x ≡ passes y)
+
+-- Where such a piece is to stand from a on and all before p is right: a field of w bytes begins at p
+abbrev pub Begins : {A : Type 0} → List ℕ → Format A → ℕ → ℕ → ℕ → Type 0
+Begins s (known x) a w p = ⊥
+Begins s (field v) a w p = (v ≡ w) × (a ≡ p)
+Begins s (then {A = A} t next) a w p = Begins s t a w p ⊎ ((x : A) × (b : ℕ) × Piece s t a x b × Begins s (next x) b w p)
+Begins s (tested t test) a w p = Begins s t a w p
+
+-- and: a piece begins at p that is complete and fails its test, with that number
+abbrev pub Breaks : {A : Type 0} → List ℕ → Format A → ℕ → ℕ → ℕ → Type 0
+Breaks s (known x) a number p = ⊥
+Breaks s (field w) a number p = ⊥
+Breaks s (then {A = A} t next) a number p = Breaks s t a number p ⊎ ((x : A) × (b : ℕ) × Piece s t a x b × Breaks s (next x) b number p)
+Breaks s (tested {A = A} t test) a number p = Breaks s t a number p ⊎ ((x : A) × (c : ℕ) × Piece s t a x c × (test x ≡ fails number) × (a ≡ p))
+
+-- "beyond its limit", "not 0 or 1", "that isn't there": a number of w bytes from low to below high, else that number at the field
+abbrev pub from : ℕ → ℕ → ℕ → ℕ → Judged ℕ
+from low high number v = pick (leb low v) (pick (ltb v high) (passes v) (fails number)) (fails number)
+
+abbrev pub ranged : ℕ → ℕ → ℕ → ℕ → Format ℕ
+ranged w low high number = tested (field w) (from low high number)
+
+-- "k i32, K i32 .. signed in two's complement": from low to high
+abbrev pub fromZ : ℤ → ℤ → ℕ → Judged ℤ
+fromZ low high v = pick (betweenZ low high (signed v)) (passes (signed v)) (fails beyond)
+
+abbrev pub signedRanged : ℤ → ℤ → Format ℤ
+signedRanged low high = tested (field 4) (fromZ low high)
+
+-- the reader of a format
+abbrev pub settled : {A : Type 0} → Judged A → ℕ → ℕ → Read A
+settled (passes x) c a = got x c
+settled (fails number) c a = refused number a
+
+unfoldable pub run : {A : Type 0} → Format A → List ℕ → ℕ → Read A
+run (known x) s a = got x a
+run (field w) s a = fieldAt w s a
+run (then t next) s a = bind (run t s a) λ x c. run (next x) s c
+run (tested t test) s a = bind (run t s a) λ x c. settled (test x) c a

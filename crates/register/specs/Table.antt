@@ -1,0 +1,27 @@
+-- "Reply numbers", 16 and 17: which refusal closing and quoting a clock of a sheet get, and where. "Closing: 1 to 10, 16, 17."
+use mathlib.Core.Path.{_≡_}
+use mathlib.Core.List.{List}
+use mathlib.Core.Option.{some}
+use Prim.Native.Nat.{ℕ, _≤_}
+use lib.ListN.{length, getElem?}
+use Rattle.expression.specs.Expression.{Clock}
+use Rattle.sheet.specs.Opened.{Opened}
+use Rattle.sheet.specs.Format.{Refused, Passed}
+
+-- clock i is there and marked closed
+pub record MarkedClosed (o : Opened) (i : ℕ) : Type 0 where
+  pub clock : Clock
+  pub there : getElem? (o .sheet .clocks) i ≡ some clock
+  pub closed : clock .state ≡ 1
+
+-- quoting clock i: "1 to 10 or 16"
+pub data QuoteRefused (s : List ℕ) (i : ℕ) : ℕ → ℕ → Type 0 where
+  in-sheet : {number place : ℕ} → Refused s number place → QuoteRefused s i number place
+  -- "no such clock": 0
+  no-clock : (o : Opened) → Passed s o → length (o .sheet .clocks) ≤ i → QuoteRefused s i 16 0
+
+-- closing it
+pub data CloseRefused (s : List ℕ) (i : ℕ) : ℕ → ℕ → Type 0 where
+  unquoted : {number place : ℕ} → QuoteRefused s i number place → CloseRefused s i number place
+  -- "clock already closed": 0
+  already : (o : Opened) → Passed s o → MarkedClosed o i → CloseRefused s i 17 0
