@@ -23,17 +23,16 @@ use Rattle.sheet.specs.Opened.{Opened}
 use Rattle.sheet.specs.Rooms.{rowsOf}
 use Rattle.sheet.specs.WorkOut.{workedOf, replyOf, flatRows, clocksOut, linksOut, WorksOut}
 use Rattle.sheet.specs.Format.{Passed, WorkRefused}
-use Rattle.sheet.proofs.Format.{refused-listed, listed-refused, accepted-passed, passed-accepted}
+use Rattle.sheet.proofs.Format.{listed-refused, passed-accepted, one-passed, passed-or-refused, never-both}
 use Rattle.sheet.proofs.Format as Format
 use Rattle.sheet.proofs.Numbers.{one-to-ten}
 use Rattle.sheet.proofs.Table.{worked-listed, listed-worked, worked-passed, passed-worked}
 use Rattle.sheet.proofs.Served.{meant}
-use Rattle.sheet.proofs.Promise.{tie, served}
+use Rattle.sheet.proofs.Promise.{served}
 use Rattle.register.specs.Closing.{closingOf, closingReply, numberOf, closedBytes}
 use Rattle.register.specs.Quoting.{quotingOf, quotedFrom, quotedPart, quoteReply}
 use Rattle.register.proofs.Table.{closing-exactly, quoting-exactly}
-use Rattle.register.proofs.Promise.{closes, quotes}
-use Rattle.register.proofs.Closes.{any-set}
+use Rattle.register.proofs.Promise.{close-0, closes, quote-0, quotes, quotes-nothing, any-set, any-order}
 use Rattle.report.specs.declared.Listed.{Listed}
 use Rattle.report.specs.Listing.{sheetText, listedIn, textIn, listedOf, textAfter, numberOf as listNumber}
 use Rattle.report.proofs.Table.{listing-exactly}
@@ -120,8 +119,9 @@ demand-1 =
       next-fixed = λ e p.
           fixed _ (nextAnswer e p, nextBytes e p) (record { answer-is = refl; bytes-are = refl })
           (λ b h. pair (h .answer-is) (h .bytes-are));
-      sheet-refused = λ s number place. (refused-listed s number place, listed-refused s);
-      sheet-passed = λ s o c. (accepted-passed s o c, λ h. passed-accepted s o c (h .0) (h .1));
+      passed-or-refused = passed-or-refused;
+      never-both = λ s o number place. never-both s o;
+      one-sheet = one-passed;
       one-refusal = λ s number number′ place place′. Format.one-refusal s;
       one-to-ten = λ s number place r. one-to-ten s number place (listed-refused s r);
       work-out-refused = λ s clocks links r cs ls h number place n.
@@ -135,7 +135,9 @@ demand-1 =
       first-refused = λ e p a q h number place. rw (h .answer-is) (patterns .refusals e p .first number place);
       next-refused = λ e p a q h number place. rw (h .answer-is) (patterns .refusals e p .next number place);
       close-refused = λ s i r t h number place n. rw (h .reply-is) (closing-exactly s i number place n);
+      close-0 = close-0;
       quote-refused = λ s i r h number place n. rw (h .reply-is) (quoting-exactly s i number place n);
+      quote-0 = quote-0;
       work-out-untouched = λ s clocks links r cs ls h n.
           rw (h .clocks-are, h .links-are, h .reply-is) (untouched (workedOf s (length clocks) (length links)) clocks links (λ z. n (ap (λ (q : Reply). q .number) (h .reply-is) ∙ z)));
       close-untouched = λ s i r t h n. h .bytes-are ∙ unclosed (closingOf s i) s (λ z. n (ap numberOf (h .reply-is) ∙ z));
@@ -151,8 +153,7 @@ read s o p = passed-accepted s o (length s) p refl
 pub demand-2 : Demand2
 demand-2 =
     record {
-      envelopes = λ s bytes o p. let w = tie s bytes .accepted-is-spelled o (length s) (read s o p) in (w .0, w .1, w .2);
-      none-refused = λ s bytes v xs l w e. accepted-passed s (record { sheet = v; table = xs }) (length s) (tie s bytes .spelled-is-accepted v xs l w e) .0;
+      taken = λ s bytes o p i x e. served s bytes .taken o (length s) (read s o p) i x e;
       stands-inside = λ s bytes o p i x e a. meant s bytes o (length s) (read s o p) .clock-sound i x a e;
       some-stream = λ s bytes o p. meant s bytes o (length s) (read s o p) .clock-some;
       verdicts = λ o l x y p q. rw (p, q);
@@ -171,20 +172,19 @@ demand-2 =
           );
       listing = listing-fits;
       listing-most = λ s bytes o p. listing s .most bytes o (length s) (read s o p);
-      closing = λ s bytes i r t. closes s bytes i r t;
-      any-set = λ s bytes. any-set s bytes;
-      quoting = λ s bytes i. quotes s bytes i;
+      closing = closes;
+      any-set = any-set;
+      any-order = any-order;
+      quoting = quotes;
+      quoting-nothing = quotes-nothing;
     }
 
 -- ---- the sizes given
-same-sheet : (s : List ℕ) (o x : Opened) → Passed s o → Passed s x → x ≡ o
-same-sheet s o x p q = let e : _≡_ {A = Read Opened} (got x (length s)) (got o (length s)) = sym (read s x q) ∙ read s o p in cc
-
 links-out : (s : List ℕ) (clocks links : List ℤ) (r : Reply) (cs ls : List ℤ) → WorksOut s clocks links r cs ls → r .number ≡ 0 → (o : Opened) → Passed s o
     → ls ≡ flatRows (rowsOf o) ++ drop (3 * length (o .sheet .links)) links
 links-out s clocks links r cs ls h z o p =
     let a = accepted-0 s (length clocks) (length links) (ap (λ (x : Reply). x .number) (sym (h .reply-is)) ∙ z) in
-    let is : a .0 ≡ o = same-sheet s o (a .0) p (a .1) in
+    let is : a .0 ≡ o = one-passed s (a .0) o (a .1) p in
     let fits = subst (λ (x : Opened). (4 * length (x .table) ≤ length clocks) × (3 * length (x .sheet .links) ≤ length links)) is (a .2, a .3) in
     h .links-are
     ∙ ap (λ (x : Read Opened). linksOut x links) (passed-worked s (length clocks) (length links) o (length s) (p, refl, fits .0, fits .1))

@@ -12,13 +12,12 @@
 -- What only inner functions and proofs use stands in specs/Inner.
 -- That every function ends and never does anything undefined is part of every contract's proof and needs no statement.
 use mathlib.Core.Path.{_≡_}
-use mathlib.Core.Logic.{_≢_, _↔_}
-use mathlib.Core.List.{List, _++_}
+use mathlib.Core.Logic.{_⊎_, _≢_, _↔_}
+use mathlib.Core.List.{List, [], _++_}
 use mathlib.Core.Option.{some}
 use Prim.Native.Nat.{ℕ, _+_, _*_, _≤_, _<_}
 use lib.IntN.{ℤ, pos}
 use lib.ListN.{length, drop, getD, getElem?}
-use Rattle.field.specs.Read.{Read.got, Read.refused}
 use Rattle.field.specs.Spelling.{AllBytes}
 use Rattle.envelope.specs.declared.Envelope.{Envelope}
 use Rattle.envelope.specs.declared.Node.{Node}
@@ -36,11 +35,9 @@ use Rattle.pattern.specs.Table.{Unfit, Refuses}
 use Rattle.pattern.specs.Walk.{Walks}
 use Rattle.expression.specs.Expression.{Expr}
 use Rattle.expression.specs.Stands.{Stands}
-use Rattle.expression.specs.Evaluate.{Worked}
 use Rattle.expression.specs.Table.{flats}
 use Rattle.sheet.specs.declared.Reply.{Reply}
-use Rattle.sheet.specs.Sheet.{Link, Sheet, spellSheet, Legal}
-use Rattle.sheet.specs.Reader.{readSheet}
+use Rattle.sheet.specs.Sheet.{Link}
 use Rattle.sheet.specs.Opened.{Opened}
 use Rattle.sheet.specs.Format.{Refused as SheetRefused, Passed, WorkRefused}
 use Rattle.sheet.specs.Rooms.{rowOf, rowsOf, openRoom, wholeRoom}
@@ -48,10 +45,10 @@ use Rattle.sheet.specs.WorkOut.{flatRows, WorksOut}
 use Rattle.sheet.specs.Promise.{StreamOf}
 use Rattle.register.specs.declared.Closing.{Closing}
 use Rattle.register.specs.declared.QuoteReply.{QuoteReply}
-use Rattle.register.specs.Closing.{numberOf, replyPlace, Closes}
+use Rattle.register.specs.Closing.{numberOf, placeOf, Closes}
 use Rattle.register.specs.Quoting.{Quotes, RepliesTo}
-use Rattle.register.specs.Table.{QuoteRefused, CloseRefused}
-use Rattle.register.specs.Promise.{ClosePromise, AnySet, QuotePromise}
+use Rattle.register.specs.Table.{HasMark, QuoteRefused, CloseRefused}
+use Rattle.register.specs.Promise.{Alters, OneClosed, ClosedInTurn, among, Quoted}
 use Rattle.report.specs.declared.Listed.{Listed}
 use Rattle.report.specs.Listing.{sheetText, numberOf as listNumber, placeOf as listPlace, ListsInto}
 use Rattle.report.specs.Table.{ListRefused}
@@ -77,10 +74,11 @@ pub record Demand1 : Type 0 where
   pub check-fixed : (e : Envelope) (p : List ℕ) → Fixed (λ (a : Answer). Checks e p a)
   pub first-fixed : (e : Envelope) (p : List ℕ) → Fixed (λ (a : Answer × List ℕ). Firsts e p (a .0) (a .1))
   pub next-fixed : (e : Envelope) (p : List ℕ) → Fixed (λ (a : Answer × List ℕ). Nexts e p (a .0) (a .1))
-  -- "a refusal gives its number and place": "Reply numbers", each given exactly when the table says, at its place.
-  -- 1 to 10: the table of a sheet calls no reader, and what the reader gives is just what it says
-  pub sheet-refused : (s : List ℕ) (number place : ℕ) → (readSheet s ≡ refused number place) ↔ SheetRefused s number place
-  pub sheet-passed : (s : List ℕ) (o : Opened) (c : ℕ) → (readSheet s ≡ got o c) ↔ (Passed s o × (c ≡ length s))
+  -- "a refusal gives its number and place": "Reply numbers", each given exactly when the table says, at its place. A sheet passes or is refused with one of
+  -- 1 to 10, and not both; it is one sheet, and there is one refusal
+  pub passed-or-refused : (s : List ℕ) → ((o : Opened) × Passed s o) ⊎ ((number : ℕ) × (place : ℕ) × SheetRefused s number place)
+  pub never-both : (s : List ℕ) (o : Opened) (number place : ℕ) → Passed s o → SheetRefused s number place → ⊥
+  pub one-sheet : (s : List ℕ) (o o′ : Opened) → Passed s o → Passed s o′ → o ≡ o′
   pub one-refusal : (s : List ℕ) (number number′ place place′ : ℕ) → SheetRefused s number place → SheetRefused s number′ place′ → (number ≡ number′) × (place ≡ place′)
   pub one-to-ten : (s : List ℕ) (number place : ℕ) → SheetRefused s number place → (1 ≤ number) × (number ≤ 10)
   -- 1 to 11; and 0 only where the sheet passes and both slices are long enough
@@ -96,9 +94,11 @@ pub record Demand1 : Type 0 where
   pub next-refused : (e : Envelope) (p : List ℕ) (a : Answer) (q : List ℕ) → Nexts e p a q → (number place : ℕ) → (a ≡ Refused number place) ↔ Refuses e p number place
   -- 16 and 17
   pub close-refused : (s : List ℕ) (i : ℕ) (r : Closing) (t : List ℕ) → Closes s i r t → (number place : ℕ) → number ≢ 0
-      → ((numberOf r ≡ number) × (replyPlace r ≡ place)) ↔ CloseRefused s i number place
+      → ((numberOf r ≡ number) × (placeOf r ≡ place)) ↔ CloseRefused s i number place
+  pub close-0 : (s : List ℕ) → AllBytes s → (i : ℕ) (r : Closing) (t : List ℕ) → Closes s i r t → (numberOf r ≡ 0) ↔ ((o : Opened) × Passed s o × HasMark o i 0)
   pub quote-refused : (s : List ℕ) (i : ℕ) (r : QuoteReply) → RepliesTo s i r → (number place : ℕ) → number ≢ 0
       → ((r .number ≡ number) × (r .place ≡ place)) ↔ QuoteRefused s i number place
+  pub quote-0 : (s : List ℕ) → AllBytes s → (i : ℕ) (r : QuoteReply) → RepliesTo s i r → (r .number ≡ 0) ↔ ((o : Opened) × Passed s o × (i < length (o .sheet .clocks)))
   -- "a refusal .. leaves lent memory untouched"
   pub work-out-untouched : (s : List ℕ) (clocks links : List ℤ) (r : Reply) (cs ls : List ℤ) → WorksOut s clocks links r cs ls → r .number ≢ 0
       → (cs ≡ clocks) × (ls ≡ links) × NoTotals r
@@ -110,11 +110,8 @@ pub record Demand1 : Type 0 where
 -- "2. Envelopes, verdicts and sizes are those of Cohen, Mandel, Plateau and Pouzet's clock envelopes, with the rounding and limits of document 01.
 -- Closing a clock alters one mark in the sheet and no envelope, verdict, size or whole total."
 pub record Demand2 : Type 0 where
-  -- "Envelopes": each is worked out by the rules, from the words and the earlier clocks of the sheet that the bytes spell
-  pub envelopes : (s : List ℕ) → AllBytes s → (o : Opened) → Passed s o → Legal (o .sheet) × Worked (o .sheet .words) (o .sheet .clocks) (o .table) × (s ≡ spellSheet (o .sheet))
-  -- no sheet is refused that the rules give every envelope
-  pub none-refused : (s : List ℕ) → AllBytes s → (v : Sheet) (xs : List Node) → Legal v → Worked (v .words) (v .clocks) xs → s ≡ spellSheet v
-      → Passed s (record { sheet = v; table = xs })
+  -- "Envelopes": those of the table of a sheet that passes, which the rules give clock by clock as its bytes are gone through. Each is taken
+  pub taken : (s : List ℕ) → AllBytes s → (o : Opened) → Passed s o → (i : ℕ) (x : Node) → getElem? (o .table) i ≡ some x → Taken (x .envelope)
   -- what a clock can stand for lies in its envelope, and there is some stream that it can stand for
   pub stands-inside : (s : List ℕ) → AllBytes s → (o : Opened) → Passed s o → (i : ℕ) (x : Node) → getElem? (o .table) i ≡ some x
       → (a : Stream) → Stands (o .sheet .words) (o .sheet .clocks) (Expr.clock i) a → Lies a (x .envelope)
@@ -136,12 +133,17 @@ pub record Demand2 : Type 0 where
   pub listing : (s : List ℕ) (o : Opened) → Passed s o → (t u : List ℕ) (r : Listed) → ListsInto s t r u → length (sheetText o) ≤ length t
       → (r ≡ Listed.Text (length (sheetText o))) × (u ≡ sheetText o ++ drop (length (sheetText o)) t)
   pub listing-most : (s : List ℕ) → AllBytes s → (o : Opened) → Passed s o → length (sheetText o) ≤ 18_463
-  -- "Closing a clock alters one mark in the sheet and no envelope, verdict, size or whole total"
-  pub closing : (s : List ℕ) → AllBytes s → (i : ℕ) (r : Closing) (t : List ℕ) → Closes s i r t → ClosePromise s i r t
+  -- "Closing a clock alters one mark in the sheet and no envelope, verdict, size or whole total": where the reply is 0, at its place
+  pub closing : (s : List ℕ) → AllBytes s → (i : ℕ) (r : Closing) (t : List ℕ) → Closes s i r t → numberOf r ≡ 0 → (o : Opened) → Passed s o → OneClosed s i o (placeOf r) t
   -- any set of clocks, in any order
-  pub any-set : (s : List ℕ) → AllBytes s → AnySet s
-  -- a clock's expression is handed back as that very part of the sheet
-  pub quoting : (s : List ℕ) → AllBytes s → (i : ℕ) (at : ℕ × ℕ) (part : List ℕ) (from : ℕ × ℕ) (r : QuoteReply) → Quotes s i at part from → RepliesTo s i r → QuotePromise s i at part from r
+  pub any-set : (s : List ℕ) → AllBytes s → (is t : List ℕ) → ClosedInTurn is s t → (o : Opened) → Passed s o
+      → (after : Opened) × Passed t after × Alters (among is) o after
+  pub any-order : (s : List ℕ) → AllBytes s → (is js t u : List ℕ) → ClosedInTurn is s t → ClosedInTurn js s u → ((i : ℕ) → among is i ≡ among js i) → t ≡ u
+  -- a clock's expression is "handed back as that very part of the sheet"; on a refusal "an empty part", one of the sheet's start
+  pub quoting : (s : List ℕ) → AllBytes s → (i : ℕ) (at : ℕ × ℕ) (part : List ℕ) (from : ℕ × ℕ) → Quotes s i at part from
+      → (o : Opened) → Passed s o → i < length (o .sheet .clocks) → Quoted s i at part from
+  pub quoting-nothing : (s : List ℕ) (i : ℕ) (at : ℕ × ℕ) (part : List ℕ) (from : ℕ × ℕ) (r : QuoteReply) → Quotes s i at part from → RepliesTo s i r → r .number ≢ 0
+      → (part ≡ []) × (from .0 ≡ at .0) × (from .1 ≡ at .1)
 
 -- "3. For every envelope the program takes and every length up to 4,096, walking from the first pattern to the last meets each beginning of an endless
 -- stream in that envelope exactly once, in binary order, and nothing else. For every accepted link, whichever streams the two clocks can stand for, or any

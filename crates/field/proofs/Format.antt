@@ -2,7 +2,7 @@
 -- follows a fault changes nothing; a refusal lies within the text; and a text cut short is refused at the field that is cut. Assumes nothing.
 use mathlib.Core.Path.{_≡_, refl, sym, ap, _∙_, subst}
 use mathlib.Core.Bool.{Bool, true, false}
-use mathlib.Core.Logic.{_⊎_, inl, inr}
+use mathlib.Core.Logic.{_⊎_, inl, inr, _≢_}
 use mathlib.Core.List.{List, [], _∷_, _++_}
 use Prim.Native.Nat.{ℕ, zero, suc, _+_, _≤_, _<_}
 use native.Mathlib.Omega.{arith}
@@ -13,23 +13,14 @@ use borrow.Author.Tests.{leb-true, leb-false}
 use Rattle.reply.specs.Numbers.{missing, beyond}
 use Rattle.field.specs.Read.{Read, Read.got, Read.refused, bind, pick}
 use Rattle.field.specs.Field.{lowFirst, fieldAt, fieldIn, signed, signedAt, betweenZ, signedIn}
-use Rattle.field.specs.Format.{Judged, Judged.passes, Judged.fails, Format, Format.known, Format.field, Format.then, Format.tested, Piece, Begins, Breaks, ranged, signedRanged, settled, run}
+use Rattle.field.specs.Format.{Judged, Judged.passes, Judged.fails, Format, Format.known, Format.field, Format.then, Format.tested, Piece, Fault, ranged, signedRanged, settled, run}
 use Rattle.field.proofs.Fields.{field-short, field-whole}
-
--- a refusal of the table
-abbrev pub Fault : {A : Type 0} → List ℕ → Format A → ℕ → ℕ → ℕ → Type 0
-Fault s t a number p = Breaks s t a number p ⊎ ((w : ℕ) × Begins s t a w p × (length s < p + w) × (number ≡ missing))
 
 abbrev Said : {A : Type 0} → List ℕ → Format A → ℕ → Read A → Type 0
 Said s t a (got x c) = Piece s t a x c
 Said s t a (refused number p) = Fault s t a number p
 
 module _ (s : List ℕ) where
-  lift : {A B : Type 0} (t : Format A) (u : Format B) (a b number p : ℕ) → (Breaks s t a number p → Breaks s u b number p) → ((w : ℕ) → Begins s t a w p → Begins s u b w p)
-      → Fault s t a number p → Fault s u b number p
-  lift t u a b number p f g (inl h) = inl (f h)
-  lift t u a b number p f g (inr h) = inr (h .0, g (h .0) (h .1), h .2, h .3)
-
   -- ---- what the reader answers is so
   said-field : (w a : ℕ) → Said s (field w) a (fieldAt w s a)
   unfolding fieldAt
@@ -37,7 +28,7 @@ module _ (s : List ℕ) where
     where
       go : (b : Bool) → leb (a + w) (length s) ≡ b → Said s (field w) a (pick b (got (lowFirst w s a) (a + w)) (refused missing a))
       go true e = (leb-true (a + w) (length s) e, refl, refl)
-      go false e = inr (w, (refl, refl), leb-false (a + w) (length s) e, refl)
+      go false e = (leb-false (a + w) (length s) e, refl, refl)
 
   said-then : {A B : Type 0} (t : Format A) (next : A → Format B) (a : ℕ) (r : Read A) → Said s t a r → ((x : A) (c : ℕ) → Said s (next x) c (run (next x) s c))
       → Said s (then t next) a (bind r λ x c. run (next x) s c)
@@ -45,16 +36,16 @@ module _ (s : List ℕ) where
     where
       onward : (q : Read _) → Said s (next x) b q → Said s (then t next) a q
       onward (got y c) m = (x, b, h, m)
-      onward (refused number p) m = lift (next x) (then t next) b a number p (λ m. inr (x, b, h, m)) (λ w m. inr (x, b, h, m)) m
-  said-then t next a (refused number p) h k = lift t (then t next) a a number p (λ m. inl m) (λ w m. inl m) h
+      onward (refused number p) m = inr (x, b, h, m)
+  said-then t next a (refused number p) h k = inl h
 
   said-tested : {A B : Type 0} (t : Format A) (test : A → Judged B) (a : ℕ) (r : Read A) → Said s t a r → Said s (tested t test) a (bind r λ x c. settled (test x) c a)
   said-tested t test a (got x c) h = onward (test x) refl
     where
       onward : (j : Judged _) → test x ≡ j → Said s (tested t test) a (settled j c a)
       onward (passes y) e = (x, h, e)
-      onward (fails number) e = inl (inr (x, c, h, e, refl))
-  said-tested t test a (refused number p) h = lift t (tested t test) a a number p (λ m. inl m) (λ w m. m) h
+      onward (fails number) e = inr (x, c, h, e, refl)
+  said-tested t test a (refused number p) h = inl h
 
   said : {A : Type 0} (t : Format A) (a : ℕ) → Said s t a (run t s a)
   unfolding run
@@ -77,26 +68,14 @@ module _ (s : List ℕ) where
   piece-read (then t next) a y c h = rw (piece-read t a (h .0) (h .1) (h .2)) (piece-read (next (h .0)) (h .1) y c (h .3))
   piece-read (tested t test) a y c h = rw (piece-read t a (h .0) c (h .1), h .2)
 
-  breaks-read : {A : Type 0} (t : Format A) (a number p : ℕ) → Breaks s t a number p → run t s a ≡ refused number p
-  unfolding run
-  breaks-read (known x) a number p h = absurd h
-  breaks-read (field w) a number p h = absurd h
-  breaks-read (then t next) a number p (inl h) = rw (breaks-read t a number p h)
-  breaks-read (then t next) a number p (inr h) = rw (piece-read t a (h .0) (h .1) (h .2)) (breaks-read (next (h .0)) (h .1) number p (h .3))
-  breaks-read (tested t test) a number p (inl h) = rw (breaks-read t a number p h)
-  breaks-read (tested t test) a number p (inr h) = rw (piece-read t a (h .0) (h .1) (h .2), h .3, h .4)
-
-  begins-read : {A : Type 0} (t : Format A) (a w p : ℕ) → Begins s t a w p → length s < p + w → run t s a ≡ refused missing p
-  unfolding run
-  begins-read (known x) a w p h l = absurd h
-  begins-read (field v) a w p h l = field-short v s a (omega (arith, h .0, h .1)) ∙ cc
-  begins-read (then t next) a w p (inl h) l = rw (begins-read t a w p h l)
-  begins-read (then t next) a w p (inr h) l = rw (piece-read t a (h .0) (h .1) (h .2)) (begins-read (next (h .0)) (h .1) w p (h .3) l)
-  begins-read (tested t test) a w p h l = rw (begins-read t a w p h l)
-
   pub fault-read : {A : Type 0} (t : Format A) (a number p : ℕ) → Fault s t a number p → run t s a ≡ refused number p
-  fault-read t a number p (inl h) = breaks-read t a number p h
-  fault-read t a number p (inr h) = begins-read t a (h .0) p (h .1) (h .2) ∙ ap {B = Read _} (λ n. refused n p) (sym (h .3))
+  unfolding run
+  fault-read (known x) a number p h = absurd h
+  fault-read (field w) a number p h = field-short w s a (h .0) ∙ cc
+  fault-read (then t next) a number p (inl h) = rw (fault-read t a number p h)
+  fault-read (then t next) a number p (inr h) = rw (piece-read t a (h .0) (h .1) (h .2)) (fault-read (next (h .0)) (h .1) number p (h .3))
+  fault-read (tested t test) a number p (inl h) = rw (fault-read t a number p h)
+  fault-read (tested t test) a number p (inr h) = rw (piece-read t a (h .0) (h .1) (h .2), h .3, h .4)
 
   -- ---- one piece at a place
   pub one-piece : {A : Type 0} (t : Format A) (a : ℕ) (x y : A) (c d : ℕ) → Piece s t a x c → Piece s t a y d → (x ≡ y) × (c ≡ d)
@@ -105,34 +84,19 @@ module _ (s : List ℕ) where
       (cc, cc)
 
   -- ---- a piece and a refusal lie within the text
-  pub piece-after : {A : Type 0} (t : Format A) (a : ℕ) (y : A) (c : ℕ) → Piece s t a y c → a ≤ c
-  piece-after (known x) a y c h = omega (arith, h .1)
-  piece-after (field w) a v c h = omega (arith, h .2)
-  piece-after (then t next) a y c h = omega (arith, piece-after t a (h .0) (h .1) (h .2), piece-after (next (h .0)) (h .1) y c (h .3))
-  piece-after (tested t test) a y c h = piece-after t a (h .0) c (h .1)
-
   pub piece-within : {A : Type 0} (t : Format A) (a : ℕ) (y : A) (c : ℕ) → a ≤ length s → Piece s t a y c → c ≤ length s
   piece-within (known x) a y c l h = omega (arith, h .1)
   piece-within (field w) a v c l h = omega (arith, h .2, h .0)
   piece-within (then t next) a y c l h = piece-within (next (h .0)) (h .1) y c (piece-within t a (h .0) (h .1) l (h .2)) (h .3)
   piece-within (tested t test) a y c l h = piece-within t a (h .0) c l (h .1)
 
-  pub breaks-within : {A : Type 0} (t : Format A) (a number p : ℕ) → a ≤ length s → Breaks s t a number p → p ≤ length s
-  breaks-within (known x) a number p l h = absurd h
-  breaks-within (field w) a number p l h = absurd h
-  breaks-within (then t next) a number p l (inl h) = breaks-within t a number p l h
-  breaks-within (then t next) a number p l (inr h) = breaks-within (next (h .0)) (h .1) number p (piece-within t a (h .0) (h .1) l (h .2)) (h .3)
-  breaks-within (tested t test) a number p l (inl h) = breaks-within t a number p l h
-  breaks-within (tested t test) a number p l (inr h) = omega (arith, h .4)
-
-  pub begins-within : {A : Type 0} (t : Format A) (a w p : ℕ) → a ≤ length s → Begins s t a w p → (a ≤ p) × (p ≤ length s)
-  begins-within (known x) a w p l h = absurd h
-  begins-within (field v) a w p l h = (omega (arith, h .1), omega (arith, h .1))
-  begins-within (then t next) a w p l (inl h) = begins-within t a w p l h
-  begins-within (then t next) a w p l (inr h) =
-      let q = begins-within (next (h .0)) (h .1) w p (piece-within t a (h .0) (h .1) l (h .2)) (h .3) in
-      (omega (arith, piece-after t a (h .0) (h .1) (h .2), q .0), q .1)
-  begins-within (tested t test) a w p l h = begins-within t a w p l h
+  pub fault-within : {A : Type 0} (t : Format A) (a number p : ℕ) → a ≤ length s → Fault s t a number p → p ≤ length s
+  fault-within (known x) a number p l h = absurd h
+  fault-within (field w) a number p l h = omega (arith, h .2)
+  fault-within (then t next) a number p l (inl h) = fault-within t a number p l h
+  fault-within (then t next) a number p l (inr h) = fault-within (next (h .0)) (h .1) number p (piece-within t a (h .0) (h .1) l (h .2)) (h .3)
+  fault-within (tested t test) a number p l (inl h) = fault-within t a number p l h
+  fault-within (tested t test) a number p l (inr h) = omega (arith, h .4)
 
 -- ---- which numbers a format can give
 abbrev pub Fails : {A : Type 0} → (ℕ → Type 0) → Judged A → Type 0
@@ -145,13 +109,13 @@ Gives P (field w) = Unit
 Gives P (then {A = A} t next) = Gives P t × ((x : A) → Gives P (next x))
 Gives P (tested {A = A} t test) = Gives P t × ((x : A) → Fails P (test x))
 
-pub breaks-gives : {A : Type 0} (s : List ℕ) (P : ℕ → Type 0) (t : Format A) (a number p : ℕ) → Gives P t → Breaks s t a number p → P number
-breaks-gives s P (known x) a number p g h = absurd h
-breaks-gives s P (field w) a number p g h = absurd h
-breaks-gives s P (then t next) a number p g (inl h) = breaks-gives s P t a number p (g .0) h
-breaks-gives s P (then t next) a number p g (inr h) = breaks-gives s P (next (h .0)) (h .1) number p (g .1 (h .0)) (h .3)
-breaks-gives s P (tested t test) a number p g (inl h) = breaks-gives s P t a number p (g .0) h
-breaks-gives s P (tested t test) a number p g (inr h) = rw (h .3) at (g .1 (h .0))
+pub fault-gives : {A : Type 0} (s : List ℕ) (P : ℕ → Type 0) → P missing → (t : Format A) (a number p : ℕ) → Gives P t → Fault s t a number p → P number
+fault-gives s P one (known x) a number p g h = absurd h
+fault-gives s P one (field w) a number p g h = rw (h .1) one
+fault-gives s P one (then t next) a number p g (inl h) = fault-gives s P one t a number p (g .0) h
+fault-gives s P one (then t next) a number p g (inr h) = fault-gives s P one (next (h .0)) (h .1) number p (g .1 (h .0)) (h .3)
+fault-gives s P one (tested t test) a number p g (inl h) = fault-gives s P one t a number p (g .0) h
+fault-gives s P one (tested t test) a number p g (inr h) = rw (h .3) at (g .1 (h .0))
 
 pub fails-pick : {A : Type 0} (P : ℕ → Type 0) (t : Bool) (j : Judged A) (number : ℕ) → Fails P j → P number → Fails P (pick t j (fails number))
 fails-pick P true j number h k = h
@@ -181,18 +145,18 @@ module _ (s more : List ℕ) where
   piece-stays (then t next) a y c h = (h .0, h .1, piece-stays t a (h .0) (h .1) (h .2), piece-stays (next (h .0)) (h .1) y c (h .3))
   piece-stays (tested t test) a y c h = (h .0, piece-stays t a (h .0) c (h .1), h .2)
 
-  -- whatever follows a fault, that fault is given
-  pub breaks-stays : {A : Type 0} (t : Format A) (a number p : ℕ) → Breaks s t a number p → Breaks (s ++ more) t a number p
-  breaks-stays (known x) a number p h = h
-  breaks-stays (field w) a number p h = h
-  breaks-stays (then t next) a number p (inl h) = inl (breaks-stays t a number p h)
-  breaks-stays (then t next) a number p (inr h) = inr (h .0, h .1, piece-stays t a (h .0) (h .1) (h .2), breaks-stays (next (h .0)) (h .1) number p (h .3))
-  breaks-stays (tested t test) a number p (inl h) = inl (breaks-stays t a number p h)
-  breaks-stays (tested t test) a number p (inr h) = inr (h .0, h .1, piece-stays t a (h .0) (h .1) (h .2), h .3, h .4)
+  -- whatever follows a fault, that fault is given, unless bytes were missing
+  pub fault-stays : {A : Type 0} (t : Format A) (a number p : ℕ) → number ≢ missing → Fault s t a number p → Fault (s ++ more) t a number p
+  fault-stays (known x) a number p n h = h
+  fault-stays (field w) a number p n h = absurd (n (h .1))
+  fault-stays (then t next) a number p n (inl h) = inl (fault-stays t a number p n h)
+  fault-stays (then t next) a number p n (inr h) = inr (h .0, h .1, piece-stays t a (h .0) (h .1) (h .2), fault-stays (next (h .0)) (h .1) number p n (h .3))
+  fault-stays (tested t test) a number p n (inl h) = inl (fault-stays t a number p n h)
+  fault-stays (tested t test) a number p n (inr h) = inr (h .0, h .1, piece-stays t a (h .0) (h .1) (h .2), h .3, h .4)
 
-  -- a piece of the longer text stands in the shorter, or one of its fields is cut, and begins there too
+  -- a piece of the longer text stands in the shorter, or one of its fields is cut there
   abbrev pub Cut : {A : Type 0} → Format A → ℕ → Type 0
-  Cut t a = (w : ℕ) × (p : ℕ) × Begins s t a w p × (length s < p + w)
+  Cut t a = (p : ℕ) × Fault s t a missing p
 
   pub cut : {A : Type 0} (t : Format A) (a : ℕ) (y : A) (c : ℕ) → Piece (s ++ more) t a y c → Piece s t a y c ⊎ Cut t a
   cut (known x) a y c h = inl h
@@ -202,18 +166,18 @@ module _ (s more : List ℕ) where
       go true e =
           let k : a + w ≤ length s = leb-true (a + w) (length s) e in
           inl (k, sym (low-stays w a k) ∙ h .1, h .2)
-      go false e = inr (w, a, (refl, refl), leb-false (a + w) (length s) e)
+      go false e = inr (a, (leb-false (a + w) (length s) e, refl, refl))
   cut (then t next) a y c h = go (cut t a (h .0) (h .1) (h .2)) (cut (next (h .0)) (h .1) y c (h .3))
     where
       go : Piece s t a (h .0) (h .1) ⊎ Cut t a → Piece s (next (h .0)) (h .1) y c ⊎ Cut (next (h .0)) (h .1) → Piece s (then t next) a y c ⊎ Cut (then t next) a
-      go (inr m) k = inr (m .0, m .1, inl (m .2), m .3)
+      go (inr m) k = inr (m .0, inl (m .1))
       go (inl m) (inl k) = inl (h .0, h .1, m, k)
-      go (inl m) (inr k) = inr (k .0, k .1, inr (h .0, h .1, m, k .2), k .3)
+      go (inl m) (inr k) = inr (k .0, inr (h .0, h .1, m, k .1))
   cut (tested t test) a y c h = go (cut t a (h .0) c (h .1))
     where
       go : Piece s t a (h .0) c ⊎ Cut t a → Piece s (tested t test) a y c ⊎ Cut (tested t test) a
       go (inl k) = inl (h .0, k, h .2)
-      go (inr m) = inr m
+      go (inr m) = inr (m .0, inl (m .1))
 
 -- ---- a reader that is written out step by step is the reader of a format
 -- after two readings that are the same, and by what was read

@@ -2,11 +2,11 @@
 use mathlib.Core.Path.{_≡_}
 use mathlib.Core.Logic.{_⊎_}
 use mathlib.Core.List.{List}
-use Prim.Native.Nat.{ℕ, _+_, _≤_}
+use Prim.Native.Nat.{ℕ, _+_, _≤_, _<_}
 use lib.IntN.{ℤ}
 use lib.Dec.{leb, ltb}
 use lib.ListN.{length}
-use Rattle.reply.specs.Numbers.{beyond}
+use Rattle.reply.specs.Numbers.{missing, beyond}
 use Rattle.field.specs.Read.{Read, Read.got, Read.refused, bind, pick}
 use Rattle.field.specs.Field.{lowFirst, fieldAt, signed, betweenZ}
 
@@ -29,19 +29,13 @@ Piece s (field w) a v c = (a + w ≤ length s) × (lowFirst w s a ≡ v) × (a +
 Piece s (then {A = A} t next) a y c = (x : A) × (b : ℕ) × Piece s t a x b × Piece s (next x) b y c
 Piece s (tested {A = A} t test) a y c = (x : A) × Piece s t a x c × (test x ≡ passes y)
 
--- Where such a piece is to stand from a on and all before p is right: a field of w bytes begins at p
-abbrev pub Begins : {A : Type 0} → List ℕ → Format A → ℕ → ℕ → ℕ → Type 0
-Begins s (known x) a w p = ⊥
-Begins s (field v) a w p = (v ≡ w) × (a ≡ p)
-Begins s (then {A = A} t next) a w p = Begins s t a w p ⊎ ((x : A) × (b : ℕ) × Piece s t a x b × Begins s (next x) b w p)
-Begins s (tested t test) a w p = Begins s t a w p
-
--- and: a piece begins at p that is complete and fails its test, with that number
-abbrev pub Breaks : {A : Type 0} → List ℕ → Format A → ℕ → ℕ → ℕ → Type 0
-Breaks s (known x) a number p = ⊥
-Breaks s (field w) a number p = ⊥
-Breaks s (then {A = A} t next) a number p = Breaks s t a number p ⊎ ((x : A) × (b : ℕ) × Piece s t a x b × Breaks s (next x) b number p)
-Breaks s (tested {A = A} t test) a number p = Breaks s t a number p ⊎ ((x : A) × (c : ℕ) × Piece s t a x c × (test x ≡ fails number) × (a ≡ p))
+-- "the first fault": such a piece is to stand from a on, all before p is right, and at p a field has too few bytes left (1), or a piece is complete
+-- and fails its test, with that number
+abbrev pub Fault : {A : Type 0} → List ℕ → Format A → ℕ → ℕ → ℕ → Type 0
+Fault s (known x) a number p = ⊥
+Fault s (field w) a number p = (length s < a + w) × (number ≡ missing) × (a ≡ p)
+Fault s (then {A = A} t next) a number p = Fault s t a number p ⊎ ((x : A) × (b : ℕ) × Piece s t a x b × Fault s (next x) b number p)
+Fault s (tested {A = A} t test) a number p = Fault s t a number p ⊎ ((x : A) × (c : ℕ) × Piece s t a x c × (test x ≡ fails number) × (a ≡ p))
 
 -- "beyond its limit", "not 0 or 1", "that isn't there": a number of w bytes from low to below high, else that number at the field
 abbrev pub from : ℕ → ℕ → ℕ → ℕ → Judged ℕ

@@ -23,13 +23,14 @@ use Rattle.sheet.specs.Format.{Passed}
 use Rattle.sheet.proofs.Format.{accepted-passed, passed-accepted}
 use Rattle.sheet.proofs.Rows.{every-at}
 use Rattle.sheet.proofs.Sheets.{Opens, sheet-reads}
-use Rattle.register.specs.Locating.{clockPlace, locatedIn}
-use Rattle.register.specs.Closing.{closedClock, marked, closeSheet, closeIn, closingOf, closedBytes, closeEach, only, among}
-use Rattle.register.specs.Promise.{OneClosed, AnySet}
+use Rattle.sheet.specs.Locating.{clockPlace, locatedIn}
+use Rattle.register.specs.Closing.{closingOf, closedBytes}
+use Rattle.register.specs.Inner.Marking.{closedClock, marked, closeSheet, closeIn, closeEach}
+use Rattle.register.specs.Promise.{only, OneClosed, ClosedInTurn, ClosedInTurn.none, ClosedInTurn.next, among}
 use Rattle.register.proofs.Marks.{marks-kept, marks-same, marks-both}
-use Rattle.register.proofs.Places.{clock-bytes, state-byte}
+use Rattle.sheet.proofs.Places.{clock-bytes, state-byte, clock-at}
 use Rattle.register.proofs.Sheets.{one-byte, close-opens, kept-same, opens-read}
-use Rattle.register.proofs.LinkStates.{link-states, alters}
+use Rattle.register.proofs.LinkStates.{alters}
 
 pub past-the-last : {A : Type 0} (xs : List A) (i : ℕ) → length xs ≤ i → getElem? xs i ≡ none
 past-the-last [] i h = refl
@@ -56,6 +57,9 @@ module _ (s : List ℕ) (i : ℕ) (o : Opened) (c : ℕ) (read : readSheet s ≡
 
   pub closing-open : (k : Clock) → getElem? (o .sheet .clocks) i ≡ some k → k .state ≢ 1 → closingOf s i ≡ got (clockPlace (o .sheet) i) (clockPlace (o .sheet) i + 1)
   closing-open k e h = closing-there k e ∙ rw (ne-eqb (k .state) 1 h)
+
+opens-pass : (s : List ℕ) (o : Opened) (c : ℕ) → Opens s o c → Passed s o
+opens-pass s o c h = accepted-passed s o c (opens-read s o c h) .0
 
 -- ---- one clock
 module _ (s : List ℕ) (i : ℕ) (o : Opened) (c : ℕ) (opens : Opens s o c) where
@@ -94,24 +98,24 @@ module _ (s : List ℕ) (i : ℕ) (o : Opened) (c : ℕ) (opens : Opens s o c) w
       by (some k) e = at k e (eqb (k .state) 1) refl
 
   -- a clock that was open
-  pub one-closed : (k : Clock) → getElem? (o .sheet .clocks) i ≡ some k → k .state ≢ 1 → OneClosed s i o (closedBytes (closingOf s i) s)
+  pub one-closed : (k : Clock) → getElem? (o .sheet .clocks) i ≡ some k → k .state ≢ 1 → OneClosed s i o (clockPlace (o .sheet) i) (closedBytes (closingOf s i) s)
   one-closed k e h =
       let place : ℕ = clockPlace (o .sheet) i in
       let b : Bytes s place (spellClock k) (place + length (spellClock k)) = rw (opens .bytes) (clock-bytes (o .sheet) i k e) in
       let bit : k .state < 2 = every-at ClockRow (o .sheet .clocks) i k (opens .legal .clocks-legal) e .state-bit in
       let lt : place < length s = omega (arith, end b) in
       let after : Opens (set s place 1) (closeIn (only i) o) c = rw (closing-open s i o c read k e h) at then-opens in
+      let there : i < length (o .sheet .clocks) = lookup-below (o .sheet .clocks) i k e in
       rw (closing-open s i o c read k e h)
       (record {
-        there = lookup-below (o .sheet .clocks) i k e;
-        spells = turned k e;
-        passes = accepted-passed (set s place 1) (closeIn (only i) o) c (opens-read (set s place 1) (closeIn (only i) o) c after) .0;
-        alters = alters (only i) o (opens .legal);
-        links = link-states (closeIn (only i) o);
-        same-length = length-set s place 1;
+        after = closeIn (only i) o;
+        passes = opens-pass (set s place 1) (closeIn (only i) o) c after;
+        alters = alters (only i) o;
+        its-place = clock-at s o c opens i (omega arith);
         was-open = omega (arith, state-byte k b, h);
         now-closed = getD-set-same s place 1 0 lt;
         other-bytes = λ j d. getD-set-other s place j 1 0 d;
+        same-length = length-set s place 1;
       })
 
 -- ---- many clocks
@@ -129,26 +133,25 @@ each-opens (i ∷ is) s o c h =
     ap (λ (ks : List Clock). record { sheet = record { words = o .sheet .words; clocks = ks; links = o .sheet .links }; table = o .table }) (marks-both (among is) (only i) (o .sheet .clocks)) in
     subst (λ (u : Opened). Opens (closeEach is (closedBytes (closingOf s i) s)) u c) both (each-opens is (closedBytes (closingOf s i) s) (closeIn (only i) o) c (then-opens s i o c h))
 
-pub any-set : (s : List ℕ) → AllBytes s → AnySet s
-any-set s bytes =
-    record {
-      spells = λ is o p. opened is o (length s) (was-read o p) .bytes;
-      passes = λ is o p.
-          accepted-passed (closeEach is s) (closeIn (among is) o) (length s) (opens-read (closeEach is s) (closeIn (among is) o) (length s) (opened is o (length s) (was-read o p))) .0;
-      alters = λ is o p. alters (among is) o (sheet-reads s bytes o (length s) (was-read o p) .legal);
-      links = λ is o p. link-states (closeIn (among is) o);
-      any-order = λ is js same. either is js same (readSheet s) refl;
-    }
-  where
-    was-read : (o : Opened) → Passed s o → readSheet s ≡ got o (length s)
-    was-read o p = passed-accepted s o (length s) p refl
+module _ (s : List ℕ) (bytes : AllBytes s) where
+  opened : (is : List ℕ) (o : Opened) (c : ℕ) → readSheet s ≡ got o c → Opens (closeEach is s) (closeIn (among is) o) c
+  opened is o c h = each-opens is s o c (sheet-reads s bytes o c h)
 
-    opened : (is : List ℕ) (o : Opened) (c : ℕ) → readSheet s ≡ got o c → Opens (closeEach is s) (closeIn (among is) o) c
-    opened is o c h = each-opens is s o c (sheet-reads s bytes o c h)
+  pub set-passes : (is : List ℕ) (o : Opened) → Passed s o → Passed (closeEach is s) (closeIn (among is) o)
+  set-passes is o p = opens-pass (closeEach is s) (closeIn (among is) o) (length s) (opened is o (length s) (passed-accepted s o (length s) p refl))
 
-    either : (is js : List ℕ) → ((i : ℕ) → among is i ≡ among js i) → (r : Read Opened) → readSheet s ≡ r → closeEach is s ≡ closeEach js s
-    either is js same (got o c) h =
-        opened is o c h .bytes
-        ∙ ap (λ (ks : List Clock). spellSheet (record { words = o .sheet .words; clocks = ks; links = o .sheet .links })) (marks-same (among is) (among js) (o .sheet .clocks) same)
-        ∙ sym (opened js o c h .bytes)
-    either is js same (refused number place) h = each-refused s number place h is ∙ sym (each-refused s number place h js)
+  pub set-order : (is js : List ℕ) → ((i : ℕ) → among is i ≡ among js i) → closeEach is s ≡ closeEach js s
+  set-order is js same = either (readSheet s) refl
+    where
+      either : (r : Read Opened) → readSheet s ≡ r → closeEach is s ≡ closeEach js s
+      either (got o c) h =
+          opened is o c h .bytes
+          ∙ ap (λ (ks : List Clock). spellSheet (record { words = o .sheet .words; clocks = ks; links = o .sheet .links })) (marks-same (among is) (among js) (o .sheet .clocks) same)
+          ∙ sym (opened js o c h .bytes)
+      either (refused number place) h = each-refused s number place h is ∙ sym (each-refused s number place h js)
+
+-- one after another, by what each close's contract says
+pub in-turn : (is s t : List ℕ) → ClosedInTurn is s t → t ≡ closeEach is s
+unfolding closeEach
+in-turn [] s t none = refl
+in-turn (i ∷ is) s u (next {t = t} h k) = in-turn is t u k ∙ ap (closeEach is) (h .bytes-are)

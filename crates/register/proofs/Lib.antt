@@ -1,5 +1,4 @@
 pub mod Marks
-pub mod Places
 pub mod Skips
 pub mod Sheets
 pub mod LinkStates

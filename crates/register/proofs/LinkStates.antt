@@ -16,12 +16,12 @@ use Rattle.expression.specs.Expression.{Clock}
 use Rattle.expression.proofs.Lookup.{lookup-there}
 use Rattle.sheet.specs.Sheet.{Link, Every, LinkRow, Legal}
 use Rattle.sheet.specs.Opened.{Opened}
-use Rattle.sheet.specs.Rooms.{markOf, verdictIn, rowOf, total, sizeOfRow, openRoom, wholeRoom}
+use Rattle.sheet.specs.Rooms.{markOf, verdictIn, rowOf, rowsOf, total, sizeOfRow, openRoom, wholeRoom}
 use Rattle.sheet.proofs.Rows.{each-every}
-use Rattle.register.specs.Closing.{marked, closeIn}
-use Rattle.register.specs.OpenLinks.{withIf, those, isOpen, untouched, verdictOfRow}
-use Rattle.register.specs.Table.{MarkedClosed}
-use Rattle.register.specs.Promise.{LinkStates, Alters}
+use Rattle.register.specs.Inner.Marking.{marked, closeIn}
+use Rattle.register.specs.OpenLinks.{withIf, those, isOpen, untouched, LinkStates}
+use Rattle.register.specs.Table.{HasMark}
+use Rattle.register.specs.Promise.{Alters}
 use Rattle.register.proofs.Marks.{mark-at, unmarked-at}
 
 -- ---- a link's state, from whether its ends are marked
@@ -46,15 +46,15 @@ abbrev isMarked : Opened → ℕ → Bool
 isMarked o i = eqb (markOf (getElem? (o .sheet .clocks) i)) 1
 
 -- a mark of 1 is that of a clock
-marked-closed : (o : Opened) (i : ℕ) → isMarked o i ≡ true → MarkedClosed o i
+marked-closed : (o : Opened) (i : ℕ) → isMarked o i ≡ true → HasMark o i 1
 marked-closed o i h = go (getElem? (o .sheet .clocks) i) refl (eqb-true _ 1 h)
   where
-    go : (r : Option Clock) → getElem? (o .sheet .clocks) i ≡ r → markOf r ≡ 1 → MarkedClosed o i
+    go : (r : Option Clock) → getElem? (o .sheet .clocks) i ≡ r → markOf r ≡ 1 → HasMark o i 1
     go none e p = absurd (omega arith)
-    go (some k) e p = record { clock = k; there = e; closed = p }
+    go (some k) e p = (k, e, p)
 
-closed-marked : (o : Opened) (i : ℕ) → MarkedClosed o i → isMarked o i ≡ true
-closed-marked o i h = eq-eqb _ 1 (ap markOf (h .there) ∙ h .closed)
+closed-marked : (o : Opened) (i : ℕ) → HasMark o i 1 → isMarked o i ≡ true
+closed-marked o i h = eq-eqb _ 1 (ap markOf (h .1) ∙ h .2)
 
 -- ---- the row of a link, by its state
 abbrev rowAt : Opened → Link → ℕ → Row
@@ -83,11 +83,11 @@ link-states o =
       open-room = open-sum o (o .sheet .links);
     }
   where
-    by : (l : Link) → MarkedClosed o (l .producer) ⊎ MarkedClosed o (l .consumer) → rowOf o l .state ≡ 1
+    by : (l : Link) → HasMark o (l .producer) 1 ⊎ HasMark o (l .consumer) 1 → rowOf o l .state ≡ 1
     by l (inl h) = rw (closed-marked o (l .producer) h)
     by l (inr h) = rw (closed-marked o (l .consumer) h) (closed-right (isMarked o (l .producer)))
 
-    from : (l : Link) → (isMarked o (l .producer) ≡ true) ⊎ (isMarked o (l .consumer) ≡ true) → MarkedClosed o (l .producer) ⊎ MarkedClosed o (l .consumer)
+    from : (l : Link) → (isMarked o (l .producer) ≡ true) ⊎ (isMarked o (l .consumer) ≡ true) → HasMark o (l .producer) 1 ⊎ HasMark o (l .consumer) 1
     from l (inl h) = inl (marked-closed o (l .producer) h)
     from l (inr h) = inr (marked-closed o (l .consumer) h)
 
@@ -140,17 +140,18 @@ module _ (t : ℕ → Bool) (o : Opened) where
   rows-kept f h [] = refl
   rows-kept {B} f h (l ∷ ls) = ap₂ {C = List B} (λ x xs. x ∷ xs) (h l) (rows-kept f h ls)
 
-  pub alters : Legal (o .sheet) → Alters t o (closeIn t o)
+  pub alters : Alters t o (closeIn t o)
   unfolding wholeRoom
-  alters legal =
+  alters =
       record {
         marks = λ i k e c. mark-at t (o .sheet .clocks) i k e ∙ rw c;
         keeps-marks = λ i c. unmarked-at t (o .sheet .clocks) i c;
         keeps-words = refl;
         keeps-links = refl;
         keeps-envelopes = refl;
-        keeps-verdicts = rows-kept verdictOfRow (λ l. refl) (o .sheet .links);
-        keeps-sizes = rows-kept sizeOfRow (λ l. refl) (o .sheet .links);
+        keeps-verdicts = λ l. refl;
         keeps-whole-room = ap total (rows-kept sizeOfRow (λ l. refl) (o .sheet .links));
-        still-open = open-after (o .sheet .links) (each-every (LinkRow (length (o .sheet .clocks))) [] (o .sheet .links) (legal .links-legal));
       }
+
+  pub still-open : Legal (o .sheet) → those isOpen (rowsOf (closeIn t o)) ≡ those (untouched t) (those isOpen (rowsOf o))
+  still-open legal = open-after (o .sheet .links) (each-every (LinkRow (length (o .sheet .clocks))) [] (o .sheet .links) (legal .links-legal))

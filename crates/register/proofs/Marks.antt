@@ -13,7 +13,8 @@ use Rattle.expression.specs.Expression.{Word, Clock, spellClock}
 use Rattle.expression.specs.Evaluate.{evaluate, wordNodes, Worked}
 use Rattle.expression.proofs.Lookup.{none-some}
 use Rattle.sheet.specs.Sheet.{rows, Every, ClockRow}
-use Rattle.register.specs.Closing.{closedClock, marked, markClocks, only}
+use Rattle.register.specs.Inner.Marking.{closedClock, marked, markClocks}
+use Rattle.register.specs.Promise.{only}
 
 -- ---- one clock
 marked-row : (b : Bool) (k : Clock) → ClockRow k → ClockRow (marked b k)

@@ -1,24 +1,25 @@
 -- Quoting from the bytes: each answer, and that the part is the spelling of the clock's expression. Assumes nothing.
-use mathlib.Core.Path.{_≡_, ap, _∙_}
-use mathlib.Core.List.{List}
+use mathlib.Core.Path.{_≡_, sym, ap, _∙_}
+use mathlib.Core.List.{List, [], _∷_}
 use mathlib.Core.Option.{none, some}
-use Prim.Native.Nat.{ℕ, _+_, _<_}
+use Prim.Native.Nat.{ℕ, suc, _+_, _-_, _<_}
 use native.Mathlib.Numerals.{add-one}
 use native.Mathlib.Omega.{arith}
-use lib.ListN.{length, getElem?}
+use lib.ListN.{length, take, drop, getElem?, length-append}
 use Rattle.reply.specs.Numbers.{noClock}
 use Rattle.field.specs.Read.{Read, Read.got, Read.refused}
 use Rattle.field.specs.Spelling.{Bytes}
-use Rattle.field.proofs.Spelling.{end, part}
+use Rattle.field.proofs.Spelling.{part}
 use Rattle.expression.specs.Expression.{Clock, spell, spellClock}
+use Rattle.expression.proofs.Lookup.{lookup-below}
 use Rattle.sheet.specs.Reader.{readSheet}
 use Rattle.sheet.specs.Opened.{Opened}
 use Rattle.sheet.proofs.Sheets.{Opens}
-use Rattle.register.specs.Locating.{clockPlace, locatedIn}
-use Rattle.register.specs.Quoting.{quotingOf, quotedFrom, quotedPart, quoteReply}
+use Rattle.sheet.specs.Locating.{clockPlace, locatedIn}
+use Rattle.register.specs.Quoting.{quotingOf, quotedFrom, quotedPart}
 use Rattle.register.specs.Promise.{Quoted}
 use Rattle.register.proofs.Skips.{has-tag}
-use Rattle.register.proofs.Places.{clock-bytes, expr-bytes}
+use Rattle.sheet.proofs.Places.{clock-bytes, expr-bytes, next-place, clock-at}
 use Rattle.register.proofs.Sheets.{opens-read}
 
 pub quoting-refused : (s : List ℕ) (i number place : ℕ) → readSheet s ≡ refused number place → quotingOf s i ≡ refused number place
@@ -41,19 +42,23 @@ module _ (s : List ℕ) (i : ℕ) (o : Opened) (c : ℕ) (opens : Opens s o c) (
   bytes : Bytes s (clockPlace (o .sheet) i + 1) (spell (k .expr)) (clockPlace (o .sheet) i + length (spellClock k))
   bytes = rw add-one (expr-bytes k (rw (opens .bytes) (clock-bytes (o .sheet) i k e)))
 
-  -- the part is the expression's spelling, and never empty
-  pub part-spelled : (quotedPart (quotingOf s i) s ≡ spell (k .expr)) × (0 < length (quotedPart (quotingOf s i) s))
-  part-spelled = rw there (part bytes, rw (part bytes) (has-tag (k .expr)))
+  -- the part is the expression's spelling
+  part-spelled : quotedPart (quotingOf s i) s ≡ spell (k .expr)
+  part-spelled = rw there (part bytes)
 
-  pub quoted : (at from : ℕ × ℕ) → from .0 ≡ at .0 → from .1 ≡ quotedFrom (quotingOf s i) + at .1
-      → Quoted s (clockPlace (o .sheet) i) k at (quotedPart (quotingOf s i) s) from (quoteReply (quotingOf s i))
+  pub quoted : (at from : ℕ × ℕ) → from .0 ≡ at .0 → from .1 ≡ quotedFrom (quotingOf s i) + at .1 → Quoted s i at (quotedPart (quotingOf s i) s) from
   quoted at from same begins =
-      record {
-        spelling = part-spelled .0;
+      let place : ℕ = clockPlace (o .sheet) i in
+      let below : i < length (o .sheet .clocks) = lookup-below (o .sheet .clocks) i k e in
+      let n : place + 1 + length (spell (k .expr)) ≡ clockPlace (o .sheet) (suc i) = omega (arith, next-place (o .sheet) i k e, length-append (k .state ∷ []) (spell (k .expr))) in
+      let l : place + length (spellClock k) - (place + 1) ≡ length (spell (k .expr)) = omega arith in
+      rw part-spelled
+      (record {
+        place = place;
+        its-place = clock-at s o c opens i (omega arith);
+        next-place = rw n (clock-at s o c opens (suc i) (omega arith));
+        bytes = sym (part bytes) ∙ ap (λ (m : ℕ). take m (drop (place + 1) s)) l;
         same-memory = same;
         behind = begins ∙ ap (λ (x : Read ℕ). quotedFrom x + at .1) there;
-        inside = rw (part-spelled .0) (omega (arith, end bytes));
-        never-empty = part-spelled .1;
-        number-0 = rw there;
-        place-0 = rw there;
-      }
+        never-empty = has-tag (k .expr);
+      })

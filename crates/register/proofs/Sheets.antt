@@ -14,8 +14,9 @@ use Rattle.sheet.specs.Sheet.{Sheet, spellLink, rows, section, spellSheet, Each
 use Rattle.sheet.specs.Reader.{readSheet}
 use Rattle.sheet.specs.Opened.{Opened}
 use Rattle.sheet.proofs.Sheets.{Opens, sheet-read}
-use Rattle.register.specs.Locating.{clockPlace}
-use Rattle.register.specs.Closing.{markClocks, closeSheet, closeIn, only}
+use Rattle.sheet.specs.Locating.{clockPlace}
+use Rattle.register.specs.Inner.Marking.{markClocks, closeSheet, closeIn}
+use Rattle.register.specs.Promise.{only}
 use Rattle.register.proofs.Marks.{marks-length, marks-rows, marks-worked, marks-spelled, set-more, only-spelled, take-spelled}
 
 -- one clock closed: one byte is turned

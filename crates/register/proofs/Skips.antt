@@ -14,9 +14,9 @@ use Rattle.expression.specs.Expression.{Expr, spell}
 use Rattle.expression.specs.Expression.Expr.{word, declared, negated, on, clock}
 use Rattle.expression.proofs.Lookup.{lookup-there}
 use Rattle.sheet.specs.Sheet.{Sheet, rows}
-use Rattle.register.specs.Locating.{clockPlace}
+use Rattle.sheet.specs.Locating.{clockPlace}
 use Rattle.register.specs.Inner.Skipping.{ownBytes, partsOf, HasExpr, HasClocks}
-use Rattle.register.proofs.Places.{clock-bytes, expr-bytes, next-place}
+use Rattle.sheet.proofs.Places.{clock-bytes, expr-bytes, next-place}
 
 -- n expressions are left to skip, from a to c
 pub record Left (s : List ℕ) (n a c : ℕ) : Type 0 where

@@ -16,7 +16,7 @@ use Rattle.sheet.specs.Reader.{readSheet}
 use Rattle.sheet.specs.Opened.{Opened}
 use Rattle.sheet.specs.Format.{Refused}
 use Rattle.sheet.proofs.Format.{refused-listed, listed-refused, accepted-passed, passed-accepted}
-use Rattle.register.specs.Closing.{closingOf, closingReply, numberOf, replyPlace}
+use Rattle.register.specs.Closing.{closingOf, closingReply, numberOf, placeOf}
 use Rattle.register.specs.Quoting.{quotingOf, quoteReply}
 use Rattle.register.specs.Table.{QuoteRefused, CloseRefused}
 use Rattle.register.proofs.Closes.{past-the-last, closing-refused, closing-absent, closing-already, closing-open}
@@ -65,20 +65,20 @@ module _ (s : List ℕ) (i : ℕ) where
       marked : (o : Opened) (c : ℕ) (k : Clock) → readSheet s ≡ got o c → getElem? (o .sheet .clocks) i ≡ some k → (b : Bool) → eqb (k .state) 1 ≡ b → CloseRefused s i number place
       marked o c k r e true q =
           let shut : k .state ≡ 1 = eqb-true (k .state) 1 q in
-          same-refused (CloseRefused s i) (sym (closing-already s i o c r k e shut) ∙ h) (CloseRefused.already o (accepted-passed s o c r .0) (record { clock = k; there = e; closed = shut }))
+          same-refused (CloseRefused s i) (sym (closing-already s i o c r k e shut) ∙ h) (CloseRefused.already o (accepted-passed s o c r .0) (k, e, shut))
       marked o c k r e false q = refused-got (sym h ∙ closing-open s i o c r k e (eqb-false (k .state) 1 q))
 
   listed-closing : {number place : ℕ} → CloseRefused s i number place → closingOf s i ≡ refused number place
   listed-closing (CloseRefused.unquoted (QuoteRefused.in-sheet {number = number} {place = place} r)) = closing-refused s i number place (listed-refused s r)
   listed-closing (CloseRefused.unquoted (QuoteRefused.no-clock o w h)) = closing-absent s i o (length s) (passed-accepted s o (length s) w refl) (past-the-last (o .sheet .clocks) i h)
-  listed-closing (CloseRefused.already o w m) = closing-already s i o (length s) (passed-accepted s o (length s) w refl) (m .clock) (m .there) (m .closed)
+  listed-closing (CloseRefused.already o w m) = closing-already s i o (length s) (passed-accepted s o (length s) w refl) (m .0) (m .1) (m .2)
 
   -- ---- as the replies have them
   quoted-as : (x : Read ℕ) (number place : ℕ) → number ≢ 0 → ((quoteReply x .number ≡ number) × (quoteReply x .place ≡ place)) ↔ (x ≡ refused number place)
   quoted-as (got from to) number place n = (λ h. absurd (n (sym (h .0))), λ h. refused-got (sym h))
   quoted-as (refused m q) number place n = (λ h. ap₂ {A = ℕ} {B = ℕ} {C = Read ℕ} (λ x y. refused x y) (h .0) (h .1), λ h. (cc, cc))
 
-  closed-as : (x : Read ℕ) (number place : ℕ) → number ≢ 0 → ((numberOf (closingReply x) ≡ number) × (replyPlace (closingReply x) ≡ place)) ↔ (x ≡ refused number place)
+  closed-as : (x : Read ℕ) (number place : ℕ) → number ≢ 0 → ((numberOf (closingReply x) ≡ number) × (placeOf (closingReply x) ≡ place)) ↔ (x ≡ refused number place)
   closed-as (got at c) number place n = (λ h. absurd (n (sym (h .0))), λ h. refused-got (sym h))
   closed-as (refused m q) number place n = (λ h. ap₂ {A = ℕ} {B = ℕ} {C = Read ℕ} (λ x y. refused x y) (h .0) (h .1), λ h. (cc, cc))
 
@@ -89,7 +89,7 @@ module _ (s : List ℕ) (i : ℕ) where
       (λ h. quoting-listed number place (e .0 h), λ h. e .1 (listed-quoting h))
 
   pub closing-exactly : (number place : ℕ) → number ≢ 0
-      → ((numberOf (closingReply (closingOf s i)) ≡ number) × (replyPlace (closingReply (closingOf s i)) ≡ place)) ↔ CloseRefused s i number place
+      → ((numberOf (closingReply (closingOf s i)) ≡ number) × (placeOf (closingReply (closingOf s i)) ≡ place)) ↔ CloseRefused s i number place
   closing-exactly number place n =
       let e = closed-as (closingOf s i) number place n in
       (λ h. closing-listed number place (e .0 h), λ h. e .1 (listed-closing h))

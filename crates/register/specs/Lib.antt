@@ -1,7 +1,6 @@
-pub mod Locating
 pub mod Closing
-pub mod OpenLinks
 pub mod Quoting
 pub mod Table
 pub mod Promise
+pub mod OpenLinks
 pub mod Inner

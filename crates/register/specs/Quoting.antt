@@ -5,7 +5,7 @@ use Prim.Native.Nat.{ℕ, _+_, _-_}
 use lib.ListN.{take, drop}
 use Rattle.field.specs.Read.{Read, Read.got, Read.refused, bind}
 use Rattle.register.specs.declared.QuoteReply.{QuoteReply}
-use Rattle.register.specs.Locating.{locatedIn}
+use Rattle.sheet.specs.Locating.{locatedIn}
 
 -- where the expression of clock i begins, behind its state, and the place past it; or the refusal: "1 to 10 or 16"
 unfoldable pub quotingOf : List ℕ → ℕ → Read ℕ

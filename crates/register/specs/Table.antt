@@ -8,11 +8,9 @@ use Rattle.expression.specs.Expression.{Clock}
 use Rattle.sheet.specs.Opened.{Opened}
 use Rattle.sheet.specs.Format.{Refused, Passed}
 
--- clock i is there and marked closed
-pub record MarkedClosed (o : Opened) (i : ℕ) : Type 0 where
-  pub clock : Clock
-  pub there : getElem? (o .sheet .clocks) i ≡ some clock
-  pub closed : clock .state ≡ 1
+-- clock i is there, with that mark: "0 open, 1 closed"
+abbrev pub HasMark : Opened → ℕ → ℕ → Type 0
+HasMark o i mark = (k : Clock) × (getElem? (o .sheet .clocks) i ≡ some k) × (k .state ≡ mark)
 
 -- quoting clock i: "1 to 10 or 16"
 pub data QuoteRefused (s : List ℕ) (i : ℕ) : ℕ → ℕ → Type 0 where
@@ -24,4 +22,4 @@ pub data QuoteRefused (s : List ℕ) (i : ℕ) : ℕ → ℕ → Type 0 where
 pub data CloseRefused (s : List ℕ) (i : ℕ) : ℕ → ℕ → Type 0 where
   unquoted : {number place : ℕ} → QuoteRefused s i number place → CloseRefused s i number place
   -- "clock already closed": 0
-  already : (o : Opened) → Passed s o → MarkedClosed o i → CloseRefused s i 17 0
+  already : (o : Opened) → Passed s o → HasMark o i 1 → CloseRefused s i 17 0

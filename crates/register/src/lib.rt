@@ -4,7 +4,7 @@ ghost use Prim.Native.Nat.{ℕ};
 ghost use Rattle.field.specs.Field.{fieldOf};
 ghost use Rattle.field.specs.Read.{mapped};
 ghost use Rattle.sheet.specs.Sheet.{Sheet};
-ghost use Rattle.register.specs.Locating.{clockPlace, placeOf, locatedIn};
+ghost use Rattle.sheet.specs.Locating.{clockPlace, placeOf, locatedIn};
 ghost use Rattle.register.specs.Inner.Skipping.{ownBytes, partsOf, HasExpr, HasClocks};
 ghost use Rattle.register.specs.Closing.{Closes};
 ghost use Rattle.register.specs.Quoting.{Quotes, RepliesTo};

@@ -11,7 +11,7 @@ use borrow.Author.Tests.{lt-leb, ne-eqb}
 use Rattle.reply.specs.Numbers.{missing, beyond, trailing, shortResult}
 use Rattle.field.specs.Read.{Read, Read.got, Read.refused, pick}
 use Rattle.field.specs.Spelling.{bytesOf, Bytes}
-use Rattle.field.specs.Format.{Begins}
+use Rattle.field.specs.Format.{Fault}
 use Rattle.field.proofs.Spelling.{end, split, itself, bytesOf-length}
 use Rattle.envelope.specs.declared.Node.{Node}
 use Rattle.expression.specs.Expression.{Word, Clock, spellWord, spellClock}
@@ -91,5 +91,5 @@ module _ (s : List ℕ) where
 
 -- ---- a sheet cut short
 pub cut-short : (s : List ℕ) (v : Sheet) (xs : List Node) (x : ℕ) (rest : List ℕ) → Legal v → Worked (v .words) (v .clocks) xs → s ++ (x ∷ rest) ≡ spellSheet v
-    → (w place : ℕ) × Begins s sheet 0 w place × (length s < place + w) × (readSheet s ≡ refused missing place)
+    → (place : ℕ) × Fault s sheet 0 missing place × (readSheet s ≡ refused missing place)
 cut-short s v xs x rest l w e = cut-listed s x rest _ _ (ap readSheet e ∙ sheet-read v xs l w)

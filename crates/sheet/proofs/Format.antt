@@ -10,9 +10,9 @@ use lib.ListN.{length, length-append}
 use borrow.Author.Tests.{leb-true, leb-false, le-leb, lt-leb, eqb-true, eqb-false, eq-eqb, ne-eqb}
 use Rattle.reply.specs.Numbers.{missing, beyond, unknown, noOne, absent, trailing}
 use Rattle.field.specs.Read.{Read, Read.got, Read.refused, bind, pick}
-use Rattle.field.specs.Format.{settled, run, Judged.passes, Judged.fails, Format, Piece, Begins}
+use Rattle.field.specs.Format.{settled, run, Judged.passes, Judged.fails, Format, Format.then, Format.field, Piece, Fault}
 use Rattle.field.proofs.Read.{refused-got, through, pick-left}
-use Rattle.field.proofs.Format.{Fault, read-piece, read-fault, piece-read, fault-read, piece-within, begins-within, breaks-within, piece-stays, breaks-stays, Cut, bind-same, bind-assoc, ranged-run}
+use Rattle.field.proofs.Format.{read-piece, read-fault, piece-read, fault-read, piece-within, fault-within, piece-stays, fault-stays, Cut, bind-same, bind-assoc, ranged-run}
 use Rattle.field.proofs.Format as Format
 use Rattle.envelope.specs.declared.Node.{Node}
 use Rattle.envelope.specs.Word.{bitsMost, onesIn}
@@ -22,7 +22,7 @@ use Rattle.expression.specs.Reader.{exprAt}
 use Rattle.sheet.specs.Sheet.{Link, wordsMost, clocksMost, linksMost, bytesMost}
 use Rattle.sheet.specs.Reader.{rowsAt, sectionAt, bitsAt, wordAt, clockAt, linkAt, readFrom, readSheet}
 use Rattle.sheet.specs.Opened.{ClockNode, nodeOfClock, Opened}
-use Rattle.sheet.specs.Format.{many, counted, bits, wordRow, clockRow, linkRow, sheet, Refused, Refused.too-long, Refused.cut, Refused.broken, Refused.bytes-after, Passed}
+use Rattle.sheet.specs.Format.{many, counted, bits, wordRow, clockRow, linkRow, sheet, Refused, Refused.too-long, Refused.faulty, Refused.bytes-after, Passed}
 
 pub short-enough : (s : List ℕ) → length s ≤ bytesMost → readSheet s ≡ readFrom 0 s
 unfolding readSheet
@@ -34,13 +34,13 @@ ended s o c = pick (eqb c (length s)) (got o c) (refused trailing c)
 
 module _ (s : List ℕ) where
   -- ---- each reader is that of a format
-  many-run : {A : Type 0} (row : List A → Format A) (at : List A → ℕ → Read A) → ((xs : List A) (a : ℕ) → run (row xs) s a ≡ at xs a)
+  pub many-run : {A : Type 0} (row : List A → Format A) (at : List A → ℕ → Read A) → ((xs : List A) (a : ℕ) → run (row xs) s a ≡ at xs a)
       → (n : ℕ) (xs : List A) (a : ℕ) → run (many row n xs) s a ≡ rowsAt at n xs a
   unfolding run many rowsAt
   many-run row at h zero xs a = refl
   many-run row at h (suc n) xs a = bind-same _ _ _ _ (h xs a) λ x c. many-run row at h n (xs ++ (x ∷ [])) c
 
-  counted-run : {A : Type 0} (row : List A → Format A) (at : List A → ℕ → Read A) → ((xs : List A) (a : ℕ) → run (row xs) s a ≡ at xs a)
+  pub counted-run : {A : Type 0} (row : List A → Format A) (at : List A → ℕ → Read A) → ((xs : List A) (a : ℕ) → run (row xs) s a ≡ at xs a)
       → (most a : ℕ) → run (counted row most) s a ≡ sectionAt at most s a
   unfolding run counted sectionAt
   counted-run row at h most a = bind-same _ _ _ _ (ranged-run 2 0 (most + 1) beyond s a) λ n c. many-run row at h n [] c
@@ -55,7 +55,7 @@ module _ (s : List ℕ) where
   one-run true made v c a = refl
   one-run false made v c a = refl
 
-  word-run : (a : ℕ) → run wordRow s a ≡ wordAt s a
+  pub word-run : (a : ℕ) → run wordRow s a ≡ wordAt s a
   unfolding run wordRow wordAt
   word-run a =
       bind-same _ _ _ _ (ranged-run 1 0 (bitsMost + 1) beyond s a) λ p c₁.
@@ -63,7 +63,7 @@ module _ (s : List ℕ) where
       bind-same _ _ _ _ (bits-run p c₂) λ u c₃.
       bind-assoc (run (bits q) s c₃) _ _ ∙ bind-same _ _ _ _ (bits-run q c₃) λ v c₄. one-run (leb 1 (onesIn v)) (λ v. record { prefix = u; period = v }) v c₄ c₃
 
-  clock-run : (ws : List Node) (rows : List ClockNode) (a : ℕ) → run (clockRow ws rows) s a ≡ clockAt s ws rows a
+  pub clock-run : (ws : List Node) (rows : List ClockNode) (a : ℕ) → run (clockRow ws rows) s a ≡ clockAt s ws rows a
   unfolding run clockRow clockAt exprAt
   clock-run ws rows a =
       bind-same _ _ _ _ (ranged-run 1 0 2 unknown s a) λ state c.
@@ -98,13 +98,9 @@ module _ (s : List ℕ) where
       after o c l k true e f = refused-got (sym f)
       after o c l k false e f = same trailing c f (bytes-after o l k (omega (arith, eqb-false c (length s) e, piece-within s sheet 0 o c (omega arith) k)))
 
-      fault : length s ≤ bytesMost → Fault s sheet 0 number place → Refused s number place
-      fault l (inl k) = broken l k
-      fault l (inr k) = rw (k .3) (cut (k .0) l (k .1) (k .2))
-
       by : (r : Read Opened) → run sheet s 0 ≡ r → length s ≤ bytesMost → bind r (ended s) ≡ refused number place → Refused s number place
       by (got o c) e l f = after o c l (read-piece s sheet 0 o c e) (eqb c (length s)) refl f
-      by (refused n p) e l f = fault l (read-fault s sheet 0 number place (e ∙ cc))
+      by (refused n p) e l f = faulty l (read-fault s sheet 0 number place (e ∙ cc))
 
       go : (t : Bool) → leb (length s) bytesMost ≡ t → pick t (readFrom 0 s) (refused beyond bytesMost) ≡ refused number place → Refused s number place
       go true e k = by (run sheet s 0) refl (leb-true (length s) bytesMost e) (sym (sheet-run 0) ∙ k)
@@ -113,8 +109,7 @@ module _ (s : List ℕ) where
   pub listed-refused : {number place : ℕ} → Refused s number place → readSheet s ≡ refused number place
   unfolding readSheet
   listed-refused (too-long l) = rw (lt-leb (length s) bytesMost l)
-  listed-refused (cut w {place = place} l h n) = short-enough s l ∙ sheet-run 0 ∙ rw (fault-read s sheet 0 missing place (inr (w, h, n, refl)))
-  listed-refused (broken {number = number} {place = place} l h) = short-enough s l ∙ sheet-run 0 ∙ rw (fault-read s sheet 0 number place (inl h))
+  listed-refused (faulty {number = number} {place = place} l h) = short-enough s l ∙ sheet-run 0 ∙ rw (fault-read s sheet 0 number place h)
   listed-refused (bytes-after o {place = place} l h n) = short-enough s l ∙ sheet-run 0 ∙ rw (piece-read s sheet 0 o place h, ne-eqb place (length s) (omega arith))
 
   pub one-refusal : {number number′ place place′ : ℕ} → Refused s number place → Refused s number′ place′ → (number ≡ number′) × (place ≡ place′)
@@ -143,29 +138,43 @@ module _ (s : List ℕ) where
   pub passed-accepted : (o : Opened) (c : ℕ) → Passed s o → c ≡ length s → readSheet s ≡ got o c
   passed-accepted o c h e = right-accepted o c (h .short-enough) (rw e (h .right)) e
 
+  -- a text is one sheet, or refused, and not both
+  pub one-passed : (o x : Opened) → Passed s o → Passed s x → o ≡ x
+  one-passed o x p q =
+      let e : _≡_ {A = Read Opened} (got o (length s)) (got x (length s)) = sym (passed-accepted o (length s) p refl) ∙ passed-accepted x (length s) q refl in
+      cc
+
+  pub passed-or-refused : ((o : Opened) × Passed s o) ⊎ ((number : ℕ) × (place : ℕ) × Refused s number place)
+  passed-or-refused = go (readSheet s) refl
+    where
+      go : (r : Read Opened) → readSheet s ≡ r → ((o : Opened) × Passed s o) ⊎ ((number : ℕ) × (place : ℕ) × Refused s number place)
+      go (got o c) h = inl (o, accepted-passed o c h .0)
+      go (refused number place) h = inr (number, place, refused-listed number place h)
+
+  pub never-both : {number place : ℕ} (o : Opened) → Passed s o → Refused s number place → ⊥
+  never-both o p h = refused-got (sym (listed-refused h) ∙ passed-accepted o (length s) p refl)
+
 -- ---- the first fault from the left, within the text
 pub refused-within : (s : List ℕ) {number place : ℕ} → Refused s number place → place ≤ length s
 refused-within s (too-long l) = omega arith
-refused-within s (cut w {place = place} l h n) = begins-within s sheet 0 w place (omega arith) h .1
-refused-within s (broken {number = number} {place = place} l h) = breaks-within s sheet 0 number place (omega arith) h
+refused-within s (faulty {number = number} {place = place} l h) = fault-within s sheet 0 number place (omega arith) h
 refused-within s (bytes-after o l h n) = omega arith
 
 -- whatever follows, unless bytes were missing
 pub refused-stays : (s more : List ℕ) {number place : ℕ} → length (s ++ more) ≤ bytesMost → Refused s number place → number ≢ missing → Refused (s ++ more) number place
 refused-stays s more m (too-long l) n = absurd (omega (arith, length-append s more))
-refused-stays s more m (cut w l h k) n = absurd (n refl)
-refused-stays s more m (broken {number = number} {place = place} l h) n = broken m (breaks-stays s more sheet 0 number place h)
+refused-stays s more m (faulty {number = number} {place = place} l h) n = faulty m (fault-stays s more sheet 0 number place n h)
 refused-stays s more m (bytes-after o {place = place} l h k) n = bytes-after o m (piece-stays s more sheet 0 o place h) (omega (arith, length-append s more))
 
 -- a text that is accepted, cut short: 1, at the field that is cut
 pub cut-listed : (s : List ℕ) (x : ℕ) (rest : List ℕ) (o : Opened) (c : ℕ) → readSheet (s ++ (x ∷ rest)) ≡ got o c
-    → (w place : ℕ) × Begins s sheet 0 w place × (length s < place + w) × (readSheet s ≡ refused missing place)
+    → (place : ℕ) × Fault s sheet 0 missing place × (readSheet s ≡ refused missing place)
 cut-listed s x rest o c h =
     let k = accepted-right (s ++ (x ∷ rest)) o c h in
     let short : length s ≤ bytesMost = omega (arith, k .0, length-append s (x ∷ rest)) in
     go short (k .2) (Format.cut s (x ∷ rest) sheet 0 o c (k .1))
   where
     go : length s ≤ bytesMost → c ≡ length (s ++ (x ∷ rest)) → Piece s sheet 0 o c ⊎ Cut s (x ∷ rest) sheet 0
-        → (w place : ℕ) × Begins s sheet 0 w place × (length s < place + w) × (readSheet s ≡ refused missing place)
+        → (place : ℕ) × Fault s sheet 0 missing place × (readSheet s ≡ refused missing place)
     go l e (inl k) = absurd (omega (arith, length-append s (x ∷ rest), piece-within s sheet 0 o c (omega arith) k))
-    go l e (inr k) = (k .0, k .1, k .2, k .3, listed-refused s (cut (k .0) l (k .2) (k .3)))
+    go l e (inr k) = (k .0, k .1, listed-refused s (faulty l (k .1)))

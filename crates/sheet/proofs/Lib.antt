@@ -5,6 +5,7 @@ pub mod Clocks
 pub mod Links
 pub mod Worked
 pub mod Sheets
+pub mod Places
 pub mod Faults
 pub mod Numbers
 pub mod Served

@@ -9,7 +9,7 @@ use borrow.Author.Tests.{leb-true}
 use Rattle.reply.specs.Numbers.{beyond, unknown, noOne, absent, trailing}
 use Rattle.field.specs.Read.{Read.refused}
 use Rattle.field.specs.Format.{Judged.passes, Format}
-use Rattle.field.proofs.Format.{Gives, fails-pick, gives-ranged, breaks-gives}
+use Rattle.field.proofs.Format.{Gives, fails-pick, gives-ranged, fault-gives}
 use Rattle.envelope.specs.declared.Node.{Node}
 use Rattle.envelope.specs.Word.{bitsMost, onesIn}
 use Rattle.expression.specs.Expression.{depthMost}
@@ -18,7 +18,7 @@ use Rattle.expression.proofs.Format.{Listed, expression-gives}
 use Rattle.sheet.specs.Sheet.{wordsMost, clocksMost, linksMost}
 use Rattle.sheet.specs.Reader.{readSheet}
 use Rattle.sheet.specs.Opened.{ClockNode, nodeOfClock}
-use Rattle.sheet.specs.Format.{many, counted, bits, wordRow, clockRow, linkRow, sheet, Refused, Refused.too-long, Refused.cut, Refused.broken, Refused.bytes-after}
+use Rattle.sheet.specs.Format.{many, counted, bits, wordRow, clockRow, linkRow, sheet, Refused, Refused.too-long, Refused.faulty, Refused.bytes-after}
 use Rattle.sheet.proofs.Format.{refused-listed}
 
 many-gives : {A : Type 0} (row : List A → Format A) → ((xs : List A) → Gives Listed (row xs)) → (n : ℕ) (xs : List A) → Gives Listed (many row n xs)
@@ -65,8 +65,7 @@ sheet-gives = (
 
 listed : (s : List ℕ) {number place : ℕ} → Refused s number place → Listed number
 listed s (too-long l) = refl
-listed s (cut w l h n) = refl
-listed s (broken {number = number} {place = place} l h) = breaks-gives s Listed sheet 0 number place sheet-gives h
+listed s (faulty {number = number} {place = place} l h) = fault-gives s Listed refl sheet 0 number place sheet-gives h
 listed s (bytes-after o l h n) = refl
 
 pub one-to-ten : (s : List ℕ) (number place : ℕ) → readSheet s ≡ refused number place → (1 ≤ number) × (number ≤ trailing)

@@ -51,6 +51,11 @@ module _ {A : Type 0} where
       rw (← w, append-nil xs) (h .0)
   each-at Ok xs (y ∷ zs) (suc i) z h e = rw append-assoc at (each-at Ok (xs ++ (y ∷ [])) zs i z (h .1) e)
 
+  pub each-take : (Ok : List A → A → Type 0) (xs zs : List A) (i : ℕ) → Each Ok xs zs → Each Ok xs (take i zs)
+  each-take Ok xs zs zero h = tt
+  each-take Ok xs [] (suc i) h = tt
+  each-take Ok xs (z ∷ zs) (suc i) h = (h .0, each-take Ok (xs ++ (z ∷ [])) zs i (h .1))
+
   -- and where every one does so, each does
   pub at-each : (Ok : List A → A → Type 0) (xs zs : List A) → ((i : ℕ) (z : A) → getElem? zs i ≡ some z → Ok (xs ++ take i zs) z) → Each Ok xs zs
   at-each Ok xs [] h = tt
@@ -79,7 +84,7 @@ module _ {A : Type 0} (s : List ℕ) (row : List A → ℕ → Read A) (f : A �
       let q = rows-reads one n (xs ++ (r .0 ∷ [])) (r .1) ys c (end (p .1) .1) (r .3) in
       (r .0 ∷ q .0, q .1 ∙ append-assoc xs (r .0 ∷ []) (q .0), ap suc (q .2), (p .0, q .3), join (p .1) (q .4))
 
-  rows-read : AllSpelled → (zs xs : List A) (a c : ℕ) → length xs + length zs ≤ indexes → Each Ok xs zs → Bytes s a (rows f zs) c → rowsAt row (length zs) xs a ≡ got (xs ++ zs) c
+  pub rows-read : AllSpelled → (zs xs : List A) (a c : ℕ) → length xs + length zs ≤ indexes → Each Ok xs zs → Bytes s a (rows f zs) c → rowsAt row (length zs) xs a ≡ got (xs ++ zs) c
   unfolding rowsAt rows
   rows-read one [] xs a c m h (done p) = rw append-nil
   rows-read one (z ∷ zs) xs a c m h b =

@@ -15,7 +15,7 @@ use Rattle.sheet.proofs.Rows.{every-at, each-at, at-each}
 use Rattle.sheet.proofs.Clocks.{ClockMade}
 
 module _ {A B : Type 0} (f : A → B) where
-  map-take : (xs : List A) (i : ℕ) → map f (take i xs) ≡ take i (map f xs)
+  pub map-take : (xs : List A) (i : ℕ) → map f (take i xs) ≡ take i (map f xs)
   map-take xs zero = refl
   map-take [] (suc i) = refl
   map-take (x ∷ xs) (suc i) = ap {B = List B} (λ r. f x ∷ r) (map-take xs i)

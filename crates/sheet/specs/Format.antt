@@ -6,7 +6,7 @@ use lib.Dec.{leb}
 use lib.ListN.{length}
 use Rattle.reply.specs.Numbers.{beyond, unknown, noOne, absent}
 use Rattle.field.specs.Read.{pick}
-use Rattle.field.specs.Format.{Judged, Judged.passes, Judged.fails, Format, Format.known, Format.then, Format.tested, Piece, Begins, Breaks, ranged}
+use Rattle.field.specs.Format.{Judged, Judged.passes, Judged.fails, Format, Format.known, Format.field, Format.then, Format.tested, Piece, Fault, ranged}
 use Rattle.envelope.specs.declared.Node.{Node}
 use Rattle.envelope.specs.Word.{bitsMost, onesIn}
 use Rattle.expression.specs.Expression.{Word, depthMost}
@@ -61,14 +61,20 @@ sheet =
     then (counted (λ xs. linkRow (length rows)) linksMost) λ ls.
     known {A = Opened} (record { sheet = record { words = ws; clocks = map clockOf rows; links = ls }; table = map nodeOfClock rows })
 
+-- where clock i begins: before it stand the words, the u16 count of the clocks and the clocks before it
+unfoldable pub upTo : ℕ → Format (List ClockNode)
+upTo i = then (counted (λ xs. wordRow) wordsMost) λ ws. then (field 2) λ n. many (clockRow (wordNodes ws)) i []
+
+abbrev pub ClockAt : List ℕ → ℕ → ℕ → Type 0
+ClockAt s i place = (rows : List ClockNode) × Piece s (upTo i) 0 rows place
+
 -- "Reply numbers", 1 to 10: given exactly when, and where. "Length is tested first. Then the sheet is read left to right and the first fault is given."
 pub data Refused (s : List ℕ) : ℕ → ℕ → Type 0 where
   -- 2: "sheet too long": 32,768
   too-long : bytesMost < length s → Refused s 2 32_768
-  -- 1: a field begins at the place, and "fewer bytes remain than the field has"
-  cut : (w : ℕ) {place : ℕ} → length s ≤ bytesMost → Begins s sheet 0 w place → length s < place + w → Refused s 1 place
-  -- 2 to 9: a field, a period or a node begins at the place, is complete and fails its test, with the test's number
-  broken : {number place : ℕ} → length s ≤ bytesMost → Breaks s sheet 0 number place → Refused s number place
+  -- 1: a field begins at the place, and "fewer bytes remain than the field has"; 2 to 9: a field, a period or a node begins there, is complete
+  -- and fails its test, with the test's number
+  faulty : {number place : ℕ} → length s ≤ bytesMost → Fault s sheet 0 number place → Refused s number place
   -- 10: "bytes after the last link": the first
   bytes-after : (o : Opened) {place : ℕ} → length s ≤ bytesMost → Piece s sheet 0 o place → place < length s → Refused s 10 place
 

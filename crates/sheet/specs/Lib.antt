@@ -3,6 +3,7 @@ pub mod Opened
 pub mod Reader
 pub mod Format
 pub mod Rooms
+pub mod Locating
 pub mod WorkOut
 pub mod Promise
 pub mod Figures

@@ -8,7 +8,7 @@ use lib.ListN.{length, getElem?}
 use Rattle.reply.specs.Numbers.{missing, beyond, trailing}
 use Rattle.field.specs.Read.{Read.got, Read.refused}
 use Rattle.field.specs.Spelling.{bytesOf}
-use Rattle.field.specs.Format.{Begins}
+use Rattle.field.specs.Format.{Fault}
 use Rattle.envelope.specs.declared.Node.{Node}
 use Rattle.envelope.specs.Stream.{Stream, Lies}
 use Rattle.link.specs.declared.Verdict.the-variants.{Accepted}
@@ -91,7 +91,7 @@ pub record Refusals (s : List ℕ) : Type 0 where
       → readSheet s ≡ refused number (exprPlace words clocks + blame (wordNodes words) xs (k .expr))
   -- a sheet that is cut short: bytes are missing, at the field that is cut
   pub cut-short : (v : Sheet) (xs : List Node) (x : ℕ) (rest : List ℕ) → Legal v → Worked (v .words) (v .clocks) xs → s ++ (x ∷ rest) ≡ spellSheet v
-      → (w place : ℕ) × Begins s sheet 0 w place × (length s < place + w) × (readSheet s ≡ refused missing place)
+      → (place : ℕ) × Fault s sheet 0 missing place × (readSheet s ≡ refused missing place)
   -- "the sheet is read left to right and the first fault is given": whatever follows a fault, that fault is given
   pub first-fault : (rest : List ℕ) (number place : ℕ) → readSheet s ≡ refused number place → number ≢ missing → length (s ++ rest) ≤ bytesMost
       → readSheet (s ++ rest) ≡ refused number place

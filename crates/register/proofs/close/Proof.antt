@@ -9,7 +9,7 @@ use lib.Seq.{take-length}
 use borrow.Author.Needs.{needs}
 use Rattle.field.specs.Field.{fieldOf}
 use Rattle.field.specs.Read.{mapped}
-use Rattle.register.specs.Locating.{placeOf, locatedIn}
+use Rattle.sheet.specs.Locating.{placeOf, locatedIn}
 use Rattle.register.proofs.Finds.{at-within, closes-by, close-refused, close-already, close-open}
 use Rattle.register.proofs.close.Statement.{statement}
 use Rattle.register.proofs.close.Tie as tie

@@ -4,7 +4,7 @@ use native.Mathlib.Omega.{arith}
 use denote.Ref.{now}
 use borrow.Author.Needs.{needs}
 use Rattle.field.proofs.Spelling.{end}
-use Rattle.register.specs.Locating.{clockPlace}
+use Rattle.sheet.specs.Locating.{clockPlace}
 use Rattle.register.proofs.Finds.{Chosen, find-refused, find-absent, find-chosen, before-it, behind-state, find-there}
 use Rattle.register.proofs.find.Statement.{statement}
 use Rattle.register.proofs.find.Tie as tie

@@ -5,7 +5,7 @@ use native.Mathlib.Omega.{arith}
 use borrow.Author.Needs.{needs}
 use Rattle.field.proofs.Spelling.{end}
 use Rattle.sheet.specs.Sheet.{Sheet}
-use Rattle.register.specs.Locating.{clockPlace}
+use Rattle.sheet.specs.Locating.{clockPlace}
 use Rattle.register.specs.Inner.Skipping.{HasClocks}
 use Rattle.register.proofs.Skips.{clock-expr}
 use Rattle.register.proofs.locate.Statement.{statement}

@@ -8,7 +8,7 @@ use Rattle.field.specs.Read.{pick}
 use Rattle.field.specs.Spelling.{Bytes}
 use Rattle.expression.specs.Expression.{Expr, spell}
 use Rattle.sheet.specs.Sheet.{Sheet, spellSheet}
-use Rattle.register.specs.Locating.{clockPlace}
+use Rattle.sheet.specs.Locating.{clockPlace}
 
 -- how many bytes a node has besides its parts: "1 word (u16 index); 2 declared (k i32, K i32, l u32, n u32); 3 not; 4 on; 5 earlier clock (u16 index)"
 abbrev pub ownBytes : ℕ → ℕ
