@@ -276,10 +276,6 @@ fn put_listed(out: &mut [u8], listed: Listed)
             put_reply(out, 0, 0);
             put(out, REPLY, 8, n as u64);
         }
-        Listed::Short => {
-            put_reply(out, reply::SHORT_RESULT, 0);
-            put(out, REPLY, 8, 0);
-        }
         Listed::Refused(number, place) => {
             put_reply(out, number, place as u64);
             put(out, REPLY, 8, 0);

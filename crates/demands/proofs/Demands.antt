@@ -67,7 +67,7 @@ unwritten number place q p h = rw (← h)
 unlisted : (x : Read Opened) (r : Listed) (t : List ℕ) → r ≡ listedIn x (length t) → listNumber r ≢ 0 → textIn x t ≡ t
 unlisted (got o c) r t e n = go (leb (length (sheetText o)) (length t)) e
   where
-    go : (b : Bool) → r ≡ pick b (Listed.Text (length (sheetText o))) Listed.Short → pick b (sets t 0 (sheetText o)) t ≡ t
+    go : (b : Bool) → r ≡ pick b (Listed.Text (length (sheetText o))) (Listed.Refused 11 0) → pick b (sets t 0 (sheetText o)) t ≡ t
     go true e = absurd (n (ap listNumber e))
     go false e = refl
 unlisted (refused number place) r t e n = refl

@@ -48,8 +48,7 @@ copied r bytes = record { number = r .number; place = r .place; length = bytes }
 abbrev pub quoteWritten : QuoteReply → List ℕ → ℕ → TxoriWritten
 quoteWritten r part room = pick (leb (length part) room) (copied r (length part)) short
 
--- the length of the listing; that the buffer is too short for it; or the refusal, with length 0
+-- the length of the listing; or the refusal, with length 0
 abbrev pub listWritten : Listed → TxoriWritten
 listWritten (Listed.Text bytes) = record { number = 0; place = 0; length = bytes }
-listWritten Listed.Short = short
 listWritten (Listed.Refused number place) = record { number = number; place = place; length = 0 }

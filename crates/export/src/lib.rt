@@ -113,11 +113,6 @@ pub extern "C" fn txori_list(sheet: &[u8], text: &mut [u8]) -> TxoriWritten
             place: 0,
             length: length as u64,
         },
-        Listed::Short => TxoriWritten {
-            number: reply::SHORT_RESULT as u64,
-            place: 0,
-            length: 0,
-        },
         Listed::Refused(number, place) => TxoriWritten {
             number: number as u64,
             place: place as u64,

@@ -11,7 +11,7 @@ use borrow.Author.Tests.{le-leb, le-ltb, lt-ltb}
 use Rattle.reply.specs.Numbers.{beyond, unknown, absent, tooDeep, trailing}
 use Rattle.field.specs.Read.{Read, Read.got, Read.refused, bind, pick}
 use Rattle.field.specs.Field.{fieldAt, fieldIn}
-use Rattle.field.specs.Format.{settled, run, Format, Format.then}
+use Rattle.field.specs.Format.{settled, run, Format}
 use Rattle.field.proofs.Format.{bind-known, bind-same, bind-assoc, ranged-run, signed-run, Fails, Gives, gives-ranged, gives-signed}
 use Rattle.envelope.specs.declared.Node.{Node}
 use Rattle.envelope.specs.declared.Made.{Made}
@@ -19,7 +19,7 @@ use Rattle.envelope.specs.declared.Made.the-variants.{Whole, Empty, FullRate, O
 use Rattle.envelope.specs.Limits.{lMost, lowerLeast, lowerMost, upperLeast, upperMost}
 use Rattle.envelope.specs.Made.{declaredOf, negatedOf, joinedOf}
 use Rattle.expression.specs.Expression.{Expr}
-use Rattle.expression.specs.Evaluate.{Worth, Worth.whole, worthOf, listed}
+use Rattle.expression.specs.Evaluate.{Worth, worthOf, listed}
 use Rattle.expression.specs.Reader.{exprAt}
 use Rattle.expression.proofs.Descent.{place, node, descend}
 use Rattle.expression.specs.Format.{Valued, Tag, tagOf, tag, found, named, Ruled, ruled, parts, kept, expression}
@@ -69,17 +69,15 @@ module _ (s : List ℕ) where
 
   -- an index names a node where it is below their number
   named-run : (make : ℕ → Expr) (xs : List Node) (a c : ℕ)
-      → bind (run (then (named xs) λ i. ruled (make (i .index)) (Whole (i .node))) s c) (placed a)
-      ≡ (bind (fieldIn 2 0 (length xs) absent s c) λ i d. place (make i) (listed (getElem? xs i)) d a)
+      → bind (run (named make xs) s c) (placed a) ≡ (bind (fieldIn 2 0 (length xs) absent s c) λ i d. place (make i) (listed (getElem? xs i)) d a)
   unfolding run fieldIn
   named-run make xs a c =
-      bind-assoc (run (named xs) s c) _ (placed a)
-      ∙ bind-assoc (fieldAt 2 s c) _ _
+      bind-assoc (fieldAt 2 s c) _ _
       ∙ bind-same (fieldAt 2 s c) (fieldAt 2 s c) _ _ refl (λ i d. go i d (getElem? xs i) refl)
       ∙ sym (bind-assoc (fieldAt 2 s c) _ _)
     where
       go : (i d : ℕ) (r : Option Node) → getElem? xs i ≡ r
-          → (bind (settled (found i r) d c) λ j e. place (make (j .index)) (whole (j .node)) e a)
+          → bind (settled (found (make i) r) d c) (placed a)
           ≡ (bind (pick (leb 0 i) (pick (ltb i (length xs)) (got i d) (refused absent c)) (refused absent c)) λ i d. place (make i) (listed (getElem? xs i)) d a)
       go i d none e = rw (le-leb 0 i (omega arith), le-ltb i (length xs) (lookup-none xs i e))
       go i d (some x) e = rw (le-leb 0 i (omega arith), lt-ltb i (length xs) (lookup-below xs i x e), e)
@@ -130,10 +128,10 @@ tag-gives = (tt, by)
     by (suc (suc (suc (suc (suc zero))))) = tt
     by (suc (suc (suc (suc (suc (suc n)))))) = refl
 
-named-gives : (xs : List Node) → Gives Listed (named xs)
-named-gives xs = (tt, λ i. by i (getElem? xs i))
+named-gives : (make : ℕ → Expr) (xs : List Node) → Gives Listed (named make xs)
+named-gives make xs = (tt, λ i. by i (getElem? xs i))
   where
-    by : (i : ℕ) (r : Option Node) → Fails Listed (found i r)
+    by : (i : ℕ) (r : Option Node) → Fails Listed (found (make i) r)
     by i none = refl
     by i (some x) = tt
 
@@ -145,7 +143,7 @@ kept-gives x Outgrown = refl
 
 parts-gives : (ws cs : List Node) (part : Format Valued) → Gives Listed part → (t : Tag) → Gives Listed (parts ws cs part t)
 unfolding parts
-parts-gives ws cs part h Tag.word = (named-gives ws, λ i. tt)
+parts-gives ws cs part h Tag.word = named-gives Expr.word ws
 parts-gives ws cs part h Tag.declared = (
   gives-signed Listed lowerLeast lowerMost refl,
   λ k. (
@@ -155,7 +153,7 @@ parts-gives ws cs part h Tag.declared = (
 )
 parts-gives ws cs part h Tag.negated = (h, λ x. tt)
 parts-gives ws cs part h Tag.on = (h, λ x. (h, λ y. tt))
-parts-gives ws cs part h Tag.clock = (named-gives cs, λ i. tt)
+parts-gives ws cs part h Tag.clock = named-gives Expr.clock cs
 
 pub expression-gives : (d : ℕ) (ws cs : List Node) → Gives Listed (expression d ws cs)
 unfolding expression

@@ -6,7 +6,6 @@ use Prim.Native.Nat.{ℕ, _+_, _≤_, _<_}
 use lib.IntN.{ℤ}
 use lib.Dec.{leb, ltb}
 use lib.ListN.{length}
-use Rattle.reply.specs.Numbers.{missing, beyond}
 use Rattle.field.specs.Read.{Read, Read.got, Read.refused, bind, pick}
 use Rattle.field.specs.Field.{lowFirst, fieldAt, signed, betweenZ}
 
@@ -33,7 +32,7 @@ Piece s (tested {A = A} t test) a y c = (x : A) × Piece s t a x c × (test x �
 -- and fails its test, with that number
 abbrev pub Fault : {A : Type 0} → List ℕ → Format A → ℕ → ℕ → ℕ → Type 0
 Fault s (known x) a number p = ⊥
-Fault s (field w) a number p = (length s < a + w) × (number ≡ missing) × (a ≡ p)
+Fault s (field w) a number p = (length s < a + w) × (number ≡ 1) × (a ≡ p)
 Fault s (then {A = A} t next) a number p = Fault s t a number p ⊎ ((x : A) × (b : ℕ) × Piece s t a x b × Fault s (next x) b number p)
 Fault s (tested {A = A} t test) a number p = Fault s t a number p ⊎ ((x : A) × (c : ℕ) × Piece s t a x c × (test x ≡ fails number) × (a ≡ p))
 
@@ -44,9 +43,9 @@ from low high number v = pick (leb low v) (pick (ltb v high) (passes v) (fails n
 abbrev pub ranged : ℕ → ℕ → ℕ → ℕ → Format ℕ
 ranged w low high number = tested (field w) (from low high number)
 
--- "k i32, K i32 .. signed in two's complement": from low to high
+-- "k i32, K i32 .. signed in two's complement": from low to high; "k, K .. beyond its limit" is 2
 abbrev pub fromZ : ℤ → ℤ → ℕ → Judged ℤ
-fromZ low high v = pick (betweenZ low high (signed v)) (passes (signed v)) (fails beyond)
+fromZ low high v = pick (betweenZ low high (signed v)) (passes (signed v)) (fails 2)
 
 abbrev pub signedRanged : ℤ → ℤ → Format ℤ
 signedRanged low high = tested (field 4) (fromZ low high)

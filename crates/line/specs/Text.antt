@@ -4,6 +4,7 @@ use mathlib.Core.List.{List, [], _∷_, _++_}
 use Prim.Native.Nat.{ℕ, zero, suc, _+_, _/_, _%_, min}
 use lib.IntN.{ℤ, pos, negsuc}
 use lib.ListN.{set}
+use Rattle.line.specs.Letters.{letters}
 
 -- a buffer, and the place where its next byte goes
 pub record Out : Type 0 where
@@ -81,10 +82,6 @@ putFields o (t ∷ ts) = putFields (putField o t) ts
 abbrev pub putLine : Out → List ℕ → List (List ℕ) → Out
 putLine o t ts = putOne (putFields (put o t) ts) lineFeed
 
--- at
-abbrev pub atWord : List ℕ
-atWord = 97 ∷ 116 ∷ []
-
 -- a word, a number, "at" and a place: "refused NUMBER at PLACE", "closed CLOCK at PLACE"
 abbrev pub outcomeFields : ℕ → ℕ → List (List ℕ)
-outcomeFields number place = digits number ∷ atWord ∷ digits place ∷ []
+outcomeFields number place = digits number ∷ letters "at" ∷ digits place ∷ []

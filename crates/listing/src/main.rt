@@ -20,8 +20,6 @@ fn print_listing(sheet: &[u8]) {
         Listed::Refused(number, place) => {
             terminal::print_refused(b"listing", number, place);
         }
-        // There is room for any.
-        Listed::Short => {}
     }
 }
 

@@ -29,7 +29,8 @@ use Rattle.sheet.proofs.Promise.{served}
 use Rattle.sheet.proofs.Sheets.{sheet-reads}
 use Rattle.line.specs.Text.{decimal, lineOf}
 use Rattle.line.proofs.Digits.{length-most}
-use Rattle.report.specs.Listing.{clockWord, linkWord, roomWord, openWord, closedWord, stateWord, verdictWord, clockFields, linkFields, roomFields, clockLines, linkLines, wholeText, sheetText, listingMost}
+use Rattle.line.specs.Letters.{letters}
+use Rattle.report.specs.Listing.{stateWord, verdictWord, clockFields, linkFields, roomFields, clockLines, linkLines, wholeText, sheetText, listingMost}
 
 -- ---- fields
 lower-most : (z : ℤ) → up z ≤ 1000000000 → down z ≤ 1000000000 → length (decimal z) ≤ 11
@@ -45,7 +46,7 @@ upper-most (negsuc n) h k = absurd (omega arith)
 state-most : (state : ℕ) → length (stateWord state) ≤ 6
 state-most state = go (eqb state 1)
   where
-    go : (b : Bool) → length (pick b closedWord openWord) ≤ 6
+    go : (b : Bool) → length (pick b (letters "closed") (letters "open")) ≤ 6
     go true = omega arith
     go false = omega arith
 
@@ -55,7 +56,7 @@ verdict-most Rates = omega arith
 verdict-most Early = omega arith
 
 -- ---- lines
-clock-most : (i state : ℕ) (e : Envelope) → i < 1000 → Taken e → length (lineOf clockWord (clockFields i state e)) ≤ 56
+clock-most : (i state : ℕ) (e : Envelope) → i < 1000 → Taken e → length (lineOf (letters "clock") (clockFields i state e)) ≤ 56
 unfolding lineOf
 clock-most i state e h t =
     let few = length-most 2 i (omega arith) in
@@ -65,7 +66,7 @@ clock-most i state e h t =
     let ones = length-most 6 (e .n) (omega (arith, n-small e t)) in
     simp length-append (omega (arith, state-most state))
 
-link-most : (i : ℕ) (r : Row) → i < 1000 → r .producer < 1000 → r .consumer < 1000 → sizeIn (r .verdict) ≤ 3000000000 → length (lineOf linkWord (linkFields i r)) ≤ 44
+link-most : (i : ℕ) (r : Row) → i < 1000 → r .producer < 1000 → r .consumer < 1000 → sizeIn (r .verdict) ≤ 3000000000 → length (lineOf (letters "link") (linkFields i r)) ≤ 44
 unfolding lineOf
 link-most i r h p c s =
     let few = length-most 2 i (omega arith) in
@@ -74,7 +75,7 @@ link-most i r h p c s =
     let size = length-most 9 (sizeIn (r .verdict)) (omega arith) in
     simp length-append (omega (arith, state-most (r .state), verdict-most (r .verdict)))
 
-room-most : (opened whole : ℕ) → opened ≤ 768000000000 → whole ≤ 768000000000 → length (lineOf roomWord (roomFields opened whole)) ≤ 31
+room-most : (opened whole : ℕ) → opened ≤ 768000000000 → whole ≤ 768000000000 → length (lineOf (letters "room") (roomFields opened whole)) ≤ 31
 unfolding lineOf
 room-most opened whole h k =
     let some = length-most 11 opened (omega arith) in

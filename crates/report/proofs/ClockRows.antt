@@ -13,7 +13,8 @@ use Rattle.expression.specs.Inner.Nodes.{nodesIn, nodeAt}
 use Rattle.expression.proofs.Lookup.{none-some}
 use Rattle.expression.proofs.Tables.{node-at}
 use Rattle.line.specs.Text.{lineOf}
-use Rattle.report.specs.Listing.{clockWord, clockFields, clockLines}
+use Rattle.line.specs.Letters.{letters}
+use Rattle.report.specs.Listing.{clockFields, clockLines}
 use Rattle.report.specs.Inner.Parts.{Many}
 
 drop-entry : (xs : List Node) (i : ℕ) (x : Node) → getElem? xs i ≡ some x → drop i xs ≡ x ∷ drop (suc i) xs
@@ -28,7 +29,7 @@ module _ (t : List ℤ) (ss : List ℕ) where
   abbrev pub clocksFrom : ℕ → List ℕ
   clocksFrom i = clockLines i (drop i ss) (drop i (nodesIn t))
 
-  pub clocks-next : Many t ss → (i : ℕ) → i < length ss → (x : Node) → x ≡ nodeAt t i → clocksFrom i ≡ lineOf clockWord (clockFields i (getD ss i 0) (x .envelope)) ++ clocksFrom (i + 1)
+  pub clocks-next : Many t ss → (i : ℕ) → i < length ss → (x : Node) → x ≡ nodeAt t i → clocksFrom i ≡ lineOf (letters "clock") (clockFields i (getD ss i 0) (x .envelope)) ++ clocksFrom (i + 1)
   unfolding clockLines
   clocks-next m i h x e =
       let there : 4 * i + 3 < length t = omega (arith, m .many) in

@@ -20,7 +20,8 @@ use Rattle.sheet.proofs.LinkRows.{link-anywhere, row-small, open-most}
 use Rattle.line.specs.Text.{outOf, put, putLine, lineOf}
 use Rattle.line.proofs.Puts.{put-more}
 use Rattle.report.specs.declared.Linked.{Linked}
-use Rattle.report.specs.Listing.{linkWord, linkFields, linkLines}
+use Rattle.line.specs.Letters.{letters}
+use Rattle.report.specs.Listing.{linkFields, linkLines}
 use Rattle.report.specs.Inner.Parts.{Next, rowsThere, LinksPut}
 
 -- ---- the row of the link at a cursor, by what was read there
@@ -102,7 +103,7 @@ module _ (s : List ℕ) (t : List ℤ) (ss : List ℕ) (n : ℕ) where
       go (l ∷ ls) k = absurd (omega arith)
 
   -- ---- the lines, one after another, and the sums
-  lines-next : (i : ℕ) (r : Row) (rs qs : List Row) → qs ≡ r ∷ rs → linkLines i qs ≡ lineOf linkWord (linkFields i r) ++ linkLines (i + 1) rs
+  lines-next : (i : ℕ) (r : Row) (rs qs : List Row) → qs ≡ r ∷ rs → linkLines i qs ≡ lineOf (letters "link") (linkFields i r) ++ linkLines (i + 1) rs
   unfolding linkLines
   lines-next i r rs qs e = rw (e, add-one)
 
@@ -131,7 +132,7 @@ module _ (s : List ℕ) (t : List ℤ) (ss : List ℕ) (n : ℕ) where
         }
 
     module _ {xs : List ℕ} {place i a : ℕ} {ys : List ℕ} {at opened whole : ℕ} (h : Going xs place i a ys at opened whole) where
-      pub going-more : (r : Linked) (d : Stepped (h .left) r) → AllTaken (nodesIn t) → (zs : List ℕ) (b y z : ℕ) → outOf zs b ≡ putLine (outOf ys at) linkWord (linkFields i (r .row)) → y ≡ openSizeOf (r .row) → z ≡ sizeIn (r .row .verdict)
+      pub going-more : (r : Linked) (d : Stepped (h .left) r) → AllTaken (nodesIn t) → (zs : List ℕ) (b y z : ℕ) → outOf zs b ≡ putLine (outOf ys at) (letters "link") (linkFields i (r .row)) → y ≡ openSizeOf (r .row) → z ≡ sizeIn (r .row .verdict)
           → Going xs place (i + 1) (r .next .at) zs b (opened + y) (whole + z)
       unfolding total
       going-more r d taken zs b y z p q w =
@@ -140,7 +141,7 @@ module _ (s : List ℕ) (t : List ℤ) (ss : List ℕ) (n : ℕ) where
           let wholes = ap (λ (rs : List Row). total (map sizeOfRow rs)) (d .rows) in
           record {
             left = d .rest;
-            lines = put-more (outOf ys at) (outOf zs b) linkWord (linkFields i (r .row)) _ _ (lines-next i (r .row) (leftRows (d .rest)) _ (d .rows)) p ∙ h .lines;
+            lines = put-more (outOf ys at) (outOf zs b) (letters "link") (linkFields i (r .row)) _ _ (lines-next i (r .row) (leftRows (d .rest)) _ (d .rows)) p ∙ h .lines;
             open-is = omega (arith, h .open-is, opens, q);
             whole-is = omega (arith, h .whole-is, wholes, w);
             open-few = omega (arith, h .open-few, small, q, open-most (r .row));

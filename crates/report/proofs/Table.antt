@@ -25,8 +25,8 @@ module _ (s : List ℕ) (room : ℕ) (number place : ℕ) where
       same : (m k : ℕ) → m ≡ number → k ≡ place → ListRefused s room m k → ListRefused s room number place
       same m k a b h = rw (← a, ← b) h
 
-      fits : (o : Opened) → Passed s o → (b : Bool) → leb (length (sheetText o)) room ≡ b → numberOf (pick b (Listed.Text (length (sheetText o))) Listed.Short) ≡ number
-          → placeOf (pick b (Listed.Text (length (sheetText o))) Listed.Short) ≡ place → ListRefused s room number place
+      fits : (o : Opened) → Passed s o → (b : Bool) → leb (length (sheetText o)) room ≡ b → numberOf (pick b (Listed.Text (length (sheetText o))) (Listed.Refused 11 0)) ≡ number
+          → placeOf (pick b (Listed.Text (length (sheetText o))) (Listed.Refused 11 0)) ≡ place → ListRefused s room number place
       fits o w true e p q = absurd (n (sym p))
       fits o w false e p q = same shortResult 0 p q (ListRefused.too-short o w (leb-false (length (sheetText o)) room e))
 

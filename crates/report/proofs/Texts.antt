@@ -20,7 +20,8 @@ use Rattle.line.specs.Text.{Out, outOf, top, putLine, Put}
 use Rattle.line.proofs.Puts.{put-then, put-line, put-at, put-fits}
 use Rattle.report.specs.declared.Listed.{Listed}
 use Rattle.report.specs.declared.Summed.{Summed}
-use Rattle.report.specs.Listing.{roomWord, roomFields, clockLines, wholeText, sheetText, fitted, over, listedOf, textAfter, ListsInto}
+use Rattle.line.specs.Letters.{letters}
+use Rattle.report.specs.Listing.{roomFields, clockLines, wholeText, sheetText, fitted, over, listedOf, textAfter, ListsInto}
 use Rattle.report.specs.Inner.Parts.{rowsThere, LinksPut}
 
 -- `need` is what an empty buffer measured
@@ -28,7 +29,7 @@ module _ (t text : List ℕ) (fits : length text < top) (xs : List ℕ) (need : 
   need-is : need ≡ min (length t) top
   need-is = put-at [] xs t 0 need (omega arith) m ∙ omega arith
 
-  pub text-short : length text < need → (Listed.Short ≡ fitted t (length text)) × (text ≡ over t text)
+  pub text-short : length text < need → ((Listed.Refused 11 0) ≡ fitted t (length text)) × (text ≡ over t text)
   text-short h =
       let less : length text < length t = omega (arith, need-is) in
       rw (lt-leb (length t) (length text) less) (refl, refl)
@@ -42,7 +43,7 @@ module _ (t text : List ℕ) (fits : length text < top) (xs : List ℕ) (need : 
 
 -- ---- the text of a whole sheet, part by part
 pub whole-put : (ss : List ℕ) (xs : List Node) (rs : List Row) (t t₁ t₂ t₃ : List ℕ) (a b d : ℕ) (m : Summed) → Put t a (clockLines 0 ss xs) t₁ b → LinksPut t₁ b rs t₂ m
-    → outOf t₃ d ≡ putLine (outOf t₂ (m .past)) roomWord (roomFields (m .opened) (m .whole))
+    → outOf t₃ d ≡ putLine (outOf t₂ (m .past)) (letters "room") (roomFields (m .opened) (m .whole))
     → Put t a (wholeText ss xs rs) t₃ d
 unfolding wholeText
 whole-put ss xs rs t t₁ t₂ t₃ a b d m p q r =

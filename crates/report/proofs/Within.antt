@@ -18,7 +18,7 @@ use Rattle.report.specs.Listing.{sheetText, listedIn, textIn, listedOf, 
 text-fits : (x : Read Opened) (room n : ℕ) → listedIn x room ≡ Listed.Text n → n ≤ room
 text-fits (got o c) room n e = go (leb (length (sheetText o)) room) refl e
   where
-    go : (b : Bool) → leb (length (sheetText o)) room ≡ b → pick b (Listed.Text (length (sheetText o))) Listed.Short ≡ Listed.Text n → n ≤ room
+    go : (b : Bool) → leb (length (sheetText o)) room ≡ b → pick b (Listed.Text (length (sheetText o))) (Listed.Refused 11 0) ≡ Listed.Text n → n ≤ room
     go true t e = let is : length (sheetText o) ≡ n = cc in omega (arith, leb-true (length (sheetText o)) room t)
     go false t e = let w : _≡_ {A = ℕ} 0 1 = cc in omega arith
 text-fits (refused number place) room n e = let w : _≡_ {A = ℕ} 0 1 = cc in omega arith

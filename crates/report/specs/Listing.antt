@@ -5,7 +5,6 @@ use Prim.Native.Nat.{ℕ, suc}
 use lib.Dec.{leb, eqb}
 use lib.ListN.{length}
 use lib.Seq.{sets}
-use Rattle.reply.specs.Numbers.{shortResult}
 use Rattle.field.specs.Read.{Read, Read.got, Read.refused, pick}
 use Rattle.envelope.specs.declared.Envelope.{Envelope}
 use Rattle.envelope.specs.declared.Node.{Node}
@@ -17,42 +16,18 @@ use Rattle.sheet.specs.Reader.{readSheet}
 use Rattle.sheet.specs.Opened.{Opened}
 use Rattle.sheet.specs.Rooms.{rowsOf, total, sizeOfRow}
 use Rattle.sheet.specs.Rooms.{stateOfClock}
+use Rattle.line.specs.Letters.{letters}
 use Rattle.line.specs.Text.{digits, decimal, lineOf, outcomeFields}
 use Rattle.report.specs.declared.Listed.{Listed}
 
--- clock
-abbrev pub clockWord : List ℕ
-clockWord = 99 ∷ 108 ∷ 111 ∷ 99 ∷ 107 ∷ []
-
--- link
-abbrev pub linkWord : List ℕ
-linkWord = 108 ∷ 105 ∷ 110 ∷ 107 ∷ []
-
--- room
-abbrev pub roomWord : List ℕ
-roomWord = 114 ∷ 111 ∷ 111 ∷ 109 ∷ []
-
--- refused
-abbrev pub refusedWord : List ℕ
-refusedWord = 114 ∷ 101 ∷ 102 ∷ 117 ∷ 115 ∷ 101 ∷ 100 ∷ []
-
--- open
-abbrev pub openWord : List ℕ
-openWord = 111 ∷ 112 ∷ 101 ∷ 110 ∷ []
-
--- closed
-abbrev pub closedWord : List ℕ
-closedWord = 99 ∷ 108 ∷ 111 ∷ 115 ∷ 101 ∷ 100 ∷ []
-
--- closed, where the state is 1, else open
+-- "open" or "closed"
 abbrev pub stateWord : ℕ → List ℕ
-stateWord state = pick (eqb state 1) closedWord openWord
+stateWord state = pick (eqb state 1) (letters "closed") (letters "open")
 
--- accepted, rates, early
 abbrev pub verdictWord : Verdict → List ℕ
-verdictWord (Accepted size) = 97 ∷ 99 ∷ 99 ∷ 101 ∷ 112 ∷ 116 ∷ 101 ∷ 100 ∷ []
-verdictWord Rates = 114 ∷ 97 ∷ 116 ∷ 101 ∷ 115 ∷ []
-verdictWord Early = 101 ∷ 97 ∷ 114 ∷ 108 ∷ 121 ∷ []
+verdictWord (Accepted size) = letters "accepted"
+verdictWord Rates = letters "rates"
+verdictWord Early = letters "early"
 
 -- "k, K, l, n"
 abbrev pub envelopeFields : Envelope → List (List ℕ)
@@ -73,23 +48,23 @@ roomFields opened whole = digits opened ∷ digits whole ∷ []
 
 -- "A refusal prints only `refused NUMBER at PLACE`."
 abbrev pub refusedLine : ℕ → ℕ → List ℕ
-refusedLine number place = lineOf refusedWord (outcomeFields number place)
+refusedLine number place = lineOf (letters "refused") (outcomeFields number place)
 
 -- a line for each clock, from its state and its node; the first has index i
 unfoldable pub clockLines : ℕ → List ℕ → List Node → List ℕ
 clockLines i [] xs = []
 clockLines i (state ∷ ss) [] = []
-clockLines i (state ∷ ss) (x ∷ xs) = lineOf clockWord (clockFields i state (x .envelope)) ++ clockLines (suc i) ss xs
+clockLines i (state ∷ ss) (x ∷ xs) = lineOf (letters "clock") (clockFields i state (x .envelope)) ++ clockLines (suc i) ss xs
 
 -- a line for each link, from its row; the first has index i
 unfoldable pub linkLines : ℕ → List Row → List ℕ
 linkLines i [] = []
-linkLines i (r ∷ rs) = lineOf linkWord (linkFields i r) ++ linkLines (suc i) rs
+linkLines i (r ∷ rs) = lineOf (letters "link") (linkFields i r) ++ linkLines (suc i) rs
 
 -- the clocks' lines, the links' lines, and the room line with both sums over the links
 unfoldable pub wholeText : List ℕ → List Node → List Row → List ℕ
 wholeText ss xs rs =
-    clockLines 0 ss xs ++ (linkLines 0 rs ++ lineOf roomWord (roomFields (total (map openSizeOf rs)) (total (map sizeOfRow rs))))
+    clockLines 0 ss xs ++ (linkLines 0 rs ++ lineOf (letters "room") (roomFields (total (map openSizeOf rs)) (total (map sizeOfRow rs))))
 
 -- the listing of a sheet that was read
 abbrev pub sheetText : Opened → List ℕ
@@ -107,9 +82,9 @@ textOf (refused number place) = refusedLine number place
 unfoldable pub listingOf : List ℕ → List ℕ
 listingOf s = textOf (readSheet s)
 
--- the length of a text, or, where the buffer is too short for it, that it is
+-- the length of a text; "a lent result slice is too short" is 11, at 0
 abbrev pub fitted : List ℕ → ℕ → Listed
-fitted t room = pick (leb (length t) room) (Listed.Text (length t)) Listed.Short
+fitted t room = pick (leb (length t) room) (Listed.Text (length t)) (Listed.Refused 11 0)
 
 -- the buffer at the end: the text and what stood past it, or all as it was
 abbrev pub over : List ℕ → List ℕ → List ℕ
@@ -130,16 +105,14 @@ listedOf s room = listedIn (readSheet s) room
 unfoldable pub textAfter : List ℕ → List ℕ → List ℕ
 textAfter s text = textIn (readSheet s) text
 
--- the number of the reply: a buffer that is too short is a lent result slice that is too short
+-- the number of the reply, 0 where the text is listed
 abbrev pub numberOf : Listed → ℕ
 numberOf (Listed.Text length) = 0
-numberOf Listed.Short = shortResult
 numberOf (Listed.Refused number place) = number
 
 -- and its place
 abbrev pub placeOf : Listed → ℕ
 placeOf (Listed.Text length) = 0
-placeOf Listed.Short = 0
 placeOf (Listed.Refused number place) = place
 
 -- the contract of `list`: its answer, and what the lent buffer holds at the end

@@ -13,12 +13,13 @@ use Rattle.sheet.specs.Rooms.{rowsOf, openRoom, wholeRoom}
 use Rattle.sheet.specs.Rooms.{stateOfClock}
 use Rattle.sheet.specs.WorkOut.{workedOf, replyOf, flatRows, clocksOut, linksOut}
 use Rattle.line.specs.Text.{lineOf}
-use Rattle.report.specs.Listing.{roomWord, roomFields, refusedLine, clockLines, linkLines, sheetText, listingMost, listingOf}
+use Rattle.line.specs.Letters.{letters}
+use Rattle.report.specs.Listing.{roomFields, refusedLine, clockLines, linkLines, sheetText, listingMost, listingOf}
 
 -- a line for each clock, a line for each link, and the room line
 abbrev pub sheetLines : Opened → ℕ → ℕ → List ℕ
 sheetLines o opened whole =
-    clockLines 0 (map stateOfClock (o .sheet .clocks)) (o .table) ++ (linkLines 0 (rowsOf o) ++ lineOf roomWord (roomFields opened whole))
+    clockLines 0 (map stateOfClock (o .sheet .clocks)) (o .table) ++ (linkLines 0 (rowsOf o) ++ lineOf (letters "room") (roomFields opened whole))
 
 -- the listing shows what working the sheet out gives: w, with the slices `clocks` and `links` lent
 pub record Shows (s : List ℕ) (o : Opened) (w : Read Opened) (clocks links : List ℤ) : Type 0 where

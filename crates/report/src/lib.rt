@@ -7,7 +7,8 @@ ghost use Rattle.line.specs.Text.{outOf, putField, putFields, putLine, Put};
 ghost use Rattle.expression.specs.Inner.Nodes.{nodesIn};
 ghost use Rattle.sheet.specs.Inner.Sections.{Ready};
 ghost use Rattle.sheet.specs.Reader.{linkAt};
-ghost use Rattle.report.specs.Listing.{clockWord, linkWord, roomWord, stateWord, verdictWord, envelopeFields, clockFields, linkFields, roomFields, clockLines, fitted, over, wholeText, ListsInto};
+ghost use Rattle.line.specs.Letters.{letters};
+ghost use Rattle.report.specs.Listing.{stateWord, verdictWord, envelopeFields, clockFields, linkFields, roomFields, clockLines, fitted, over, wholeText, ListsInto};
 ghost use Rattle.report.specs.Inner.Parts.{Many, Next, rowsThere, LinksPut};
 use envelope::Envelope;
 use expression::entry;
@@ -54,7 +55,7 @@ fn put_envelope(out: &mut [u8], at: usize, e: Envelope) -> usize
 }
 
 fn put_clock(out: &mut [u8], at: usize, i: usize, state: u8, e: Envelope) -> usize
-    ensures { λ r. ⌜ outOf (now (out .exit)) r ≡ putLine (outOf (now (out .entry)) at) clockWord (clockFields i state e) ⌝ }
+    ensures { λ r. ⌜ outOf (now (out .exit)) r ≡ putLine (outOf (now (out .entry)) at) (letters "clock") (clockFields i state e) ⌝ }
 {
     let a = put_bytes(out, at, b"clock");
     let b = put_digits_field(out, a, i as u64);
@@ -64,7 +65,7 @@ fn put_clock(out: &mut [u8], at: usize, i: usize, state: u8, e: Envelope) -> usi
 }
 
 fn put_link(out: &mut [u8], at: usize, i: usize, r: Row) -> usize
-    ensures { λ n. ⌜ outOf (now (out .exit)) n ≡ putLine (outOf (now (out .entry)) at) linkWord (linkFields i r) ⌝ }
+    ensures { λ n. ⌜ outOf (now (out .exit)) n ≡ putLine (outOf (now (out .entry)) at) (letters "link") (linkFields i r) ⌝ }
 {
     let v = r.verdict;
     let a = put_bytes(out, at, b"link");
@@ -78,7 +79,7 @@ fn put_link(out: &mut [u8], at: usize, i: usize, r: Row) -> usize
 }
 
 fn put_room(out: &mut [u8], at: usize, opened: u64, whole: u64) -> usize
-    ensures { λ r. ⌜ outOf (now (out .exit)) r ≡ putLine (outOf (now (out .entry)) at) roomWord (roomFields opened whole) ⌝ }
+    ensures { λ r. ⌜ outOf (now (out .exit)) r ≡ putLine (outOf (now (out .entry)) at) (letters "room") (roomFields opened whole) ⌝ }
 {
     let a = put_bytes(out, at, b"room");
     let b = put_digits_field(out, a, opened);
@@ -186,10 +187,9 @@ fn put_whole(
     put_room(out, b.past, b.opened, b.whole)
 }
 
-// The length of the text; that the buffer is too short for it; or a refusal's number and place. Only where it fits is anything written.
+// The length of the text, or a refusal's number and place: a buffer that is too short is one too. Only where the text fits is anything written.
 pub enum Listed {
     Text(usize),
-    Short,
     Refused(u8, usize),
 }
 
@@ -209,7 +209,7 @@ fn list_whole(
     let mut none = [0u8; 0];
     let need = put_whole(&mut none, start, s, table, states, n);
     if text.len() < need {
-        return Listed::Short;
+        return Listed::Refused(reply::SHORT_RESULT, 0);
     }
     put_whole(text, start, s, table, states, n);
     Listed::Text(need)

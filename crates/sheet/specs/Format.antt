@@ -4,7 +4,6 @@ use mathlib.Core.List.{List, [], _∷_, _++_, map}
 use Prim.Native.Nat.{ℕ, zero, suc, _+_, _*_, _≤_, _<_}
 use lib.Dec.{leb}
 use lib.ListN.{length}
-use Rattle.reply.specs.Numbers.{beyond, unknown, noOne, absent}
 use Rattle.field.specs.Read.{pick}
 use Rattle.field.specs.Format.{Judged, Judged.passes, Judged.fails, Format, Format.known, Format.field, Format.then, Format.tested, Piece, Fault, ranged}
 use Rattle.envelope.specs.declared.Node.{Node}
@@ -20,38 +19,38 @@ unfoldable pub many : {A : Type 0} → (List A → Format A) → ℕ → List A 
 many row zero xs = known xs
 many row (suc n) xs = then (row xs) λ x. many row n (xs ++ (x ∷ []))
 
--- "each after its u16 count"
+-- "each after its u16 count": "a count .. beyond its limit" is 2
 unfoldable pub counted : {A : Type 0} → (List A → Format A) → ℕ → Format (List A)
-counted row most = then (ranged 2 0 (most + 1) beyond) λ n. many row n []
+counted row most = then (ranged 2 0 (most + 1) 2) λ n. many row n []
 
--- "one byte 0 or 1 each"
+-- "one byte 0 or 1 each": "a bit .. not 0 or 1" is 3
 unfoldable pub bits : ℕ → Format (List ℕ)
 bits zero = known []
-bits (suc n) = then (ranged 1 0 2 unknown) λ b. then (bits n) λ bs. known (b ∷ bs)
+bits (suc n) = then (ranged 1 0 2 3) λ b. then (bits n) λ bs. known (b ∷ bs)
 
--- "a period without a 1": its first bit
+-- "a period without a 1" is 4, at its first bit
 abbrev pub withOne : List ℕ → Judged (List ℕ)
-withOne v = pick (leb 1 (onesIn v)) (passes v) (fails noOne)
+withOne v = pick (leb 1 (onesIn v)) (passes v) (fails 4)
 
--- "prefix length u8 (0 to 64), period length u8 (1 to 64), prefix bits, period bits"
+-- "prefix length u8 (0 to 64), period length u8 (1 to 64), prefix bits, period bits": "a .. length .. beyond its limit" is 2
 unfoldable pub wordRow : Format Word
 wordRow =
-    then (ranged 1 0 (bitsMost + 1) beyond) λ p.
-    then (ranged 1 1 (bitsMost + 1) beyond) λ q.
+    then (ranged 1 0 (bitsMost + 1) 2) λ p.
+    then (ranged 1 1 (bitsMost + 1) 2) λ q.
     then (bits p) λ u.
     then (tested (bits q) withOne) λ v.
     known {A = Word} (record { prefix = u; period = v })
 
--- "state u8 (0 open, 1 closed), then one expression"
+-- "state u8 (0 open, 1 closed), then one expression": "a .. state not 0 or 1" is 3
 unfoldable pub clockRow : List Node → List ClockNode → Format ClockNode
 clockRow ws rows =
-    then (ranged 1 0 2 unknown) λ state.
+    then (ranged 1 0 2 3) λ state.
     then (expression depthMost ws (map nodeOfClock rows)) λ x.
     known {A = ClockNode} (record { clock = record { state = state; expr = x .expr }; node = x .node })
 
--- "producer u16, consumer u16", between n clocks
+-- "producer u16, consumer u16", between n clocks: "a .. link end that isn't there" is 5
 unfoldable pub linkRow : ℕ → Format Link
-linkRow n = then (ranged 2 0 n absent) λ p. then (ranged 2 0 n absent) λ q. known {A = Link} (record { producer = p; consumer = q })
+linkRow n = then (ranged 2 0 n 5) λ p. then (ranged 2 0 n 5) λ q. known {A = Link} (record { producer = p; consumer = q })
 
 -- "Three sections in this order"
 unfoldable pub sheet : Format Opened

@@ -7,7 +7,7 @@ use denote.Ref.{now}
 use lib.ListN.{length}
 use Rattle.line.specs.Text.{outOf, put}
 use Rattle.line.proofs.Puts.{put-more, going-length}
-use Rattle.report.specs.Listing.{clockWord}
+use Rattle.line.specs.Letters.{letters}
 use Rattle.report.proofs.ClockRows.{clocksFrom, clocks-next, clocks-none}
 use Rattle.report.proofs.put_clocks.Statement.{statement}
 use Rattle.report.proofs.put_clocks.Tie as tie
@@ -26,7 +26,7 @@ loop-again c =
     let l = c .before .before .before .before .before .before .before in
     let a = l .before .before .before in
     let next = clocks-next (now (a .args .table)) (now (a .args .states)) (a .pre) (l .loop .i) (c .before .before .before .before .before .before .loop-test .taken) _ (c .before .before .before .before .before .entry .ensures) in
-    (omega arith, put-more _ _ clockWord _ _ _ next (c .before .before .put-clock .ensures) ∙ l .loop .inv .1)
+    (omega arith, put-more _ _ (letters "clock") _ _ _ next (c .before .before .put-clock .ensures) ∙ l .loop .inv .1)
 
 returns : tie.Need-returns Inv-loop μ-loop
 unfolding put
