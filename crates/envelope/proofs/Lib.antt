@@ -10,7 +10,7 @@ pub mod Offsets
 pub mod WordBits
 pub mod Word
 pub mod Taken
-pub mod Standings
+pub mod Tests
 pub mod Makings
 pub mod Spans
 pub mod Held

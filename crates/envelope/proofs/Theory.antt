@@ -11,7 +11,7 @@ use Rattle.envelope.proofs.Not.{notStream, not-keeps}
 use Rattle.envelope.proofs.On.{onStream, on-keeps}
 use Rattle.envelope.proofs.Word.{wordStream, word-keeps}
 use Rattle.envelope.proofs.Taken.{taken-stream, declared-taken, not-taken, on-taken, word-taken}
-use Rattle.envelope.proofs.Standings.{standing-fine, fine-standing}
+use Rattle.envelope.proofs.Tests.{is-taken, taken-is}
 
 pub positions : Positions
 positions = record { there = position; one = λ s. position-only (s .bit) }
@@ -38,5 +38,5 @@ accepted =
       not = not-taken;
       on = on-taken;
       word = word-taken;
-      standing = λ e. (standing-fine e, fine-standing e);
+      taken = λ e. (is-taken e, taken-is e);
     }

@@ -1,8 +1,10 @@
 -- Envelopes and the rules of document 01 that make them. `Envelope` is the code's own struct: k and K are whole numbers, l and n naturals.
 use mathlib.Core.Path.{_≡_}
+use mathlib.Core.Bool.{Bool, _&&_}
 use Prim.Native.Nat.{ℕ, _-_, _*_, _/_, _≤_}
 use lib.IntN.{ℤ, pos, _+ℤ_, _-ℤ_, _*ℤ_}
-use lib.Signed.{_≤ℤ_}
+use lib.Signed.{_≤ℤ_, leZ}
+use lib.Dec.{leb}
 use Rattle.whole.specs.Rounding.{floorDiv, ceilDiv}
 use Rattle.whole.specs.Order.{larger}
 use Rattle.whole.specs.Euclid.{gcdOf}
@@ -21,9 +23,18 @@ pub record Limits (e : Envelope) : Type 0 where
   pub K-least : upperLeast ≤ℤ e .K
   pub K-most : e .K ≤ℤ upperMost
 
+-- whether they are; else it is "l, k or K beyond the limits"
+unfoldable pub withinLimits : Envelope → Bool
+withinLimits e =
+    leZ lowerLeast (e .k) && leZ (e .k) lowerMost && leZ upperLeast (e .K) && leZ (e .K) upperMost && leb (e .l) lMost
+
 -- "K - k >= n - 1"
 abbrev pub Room : Envelope → Type 0
 Room e = pos (e .n - 1) ≤ℤ (e .K -ℤ e .k)
+
+-- whether that is so
+unfoldable pub hasRoom : Envelope → Bool
+hasRoom e = leZ (pos (e .n - 1)) (e .K -ℤ e .k)
 
 -- "A taken envelope also has 1 <= n <= l .." and "K - k >= n - 1"
 pub record Taken (e : Envelope) : Type 0 where

@@ -3,6 +3,5 @@ pub mod Stream
 pub mod Envelope
 pub mod Word
 pub mod Inner
-pub mod Standing
 pub mod Made
 pub mod Theory

@@ -8,10 +8,7 @@ use Rattle.envelope.specs.declared.Envelope.{Envelope}
 use Rattle.envelope.specs.declared.Node.{Node}
 use Rattle.envelope.specs.declared.Made.{Made}
 use Rattle.envelope.specs.declared.Made.the-variants.{Whole, Empty, FullRate, Outgrown}
-use Rattle.envelope.specs.declared.Standing.{Standing}
-use Rattle.envelope.specs.declared.Standing.the-variants.{Fine, BeyondLower, BeyondUpper, BeyondL, BeyondN, NoRoom, CommonFactor}
-use Rattle.envelope.specs.Envelope.{Limits, normalOf, notOf, onOf}
-use Rattle.envelope.specs.Standing.{beyondOf, hasRoom}
+use Rattle.envelope.specs.Envelope.{Limits, withinLimits, hasRoom, normalOf, notOf, onOf}
 
 -- document 01's number for each: 0 where there is an envelope
 abbrev pub numberOf : Made → ℕ
@@ -33,19 +30,9 @@ pub record Fields (k K : ℤ) (l n : ℕ) : Type 0 where
 unfoldable pub declaredOf : ℤ → ℤ → ℕ → ℕ → Made
 declaredOf k K l n = cond (hasRoom (normalOf k K l n)) (Whole (nodeOf (normalOf k K l n))) Empty
 
--- an envelope that keeps to the limits of l, k and K
-abbrev pub limitedTo : Standing → Envelope → Made
-limitedTo Fine e = Whole (nodeOf e)
-limitedTo BeyondLower e = Outgrown
-limitedTo BeyondUpper e = Outgrown
-limitedTo BeyondL e = Outgrown
-limitedTo BeyondN e = Outgrown
-limitedTo NoRoom e = Outgrown
-limitedTo CommonFactor e = Outgrown
-
 -- "not or on gives l, k or K beyond the limits" is refused
 unfoldable pub limited : Envelope → Made
-limited e = limitedTo (beyondOf e) e
+limited e = cond (withinLimits e) (Whole (nodeOf e)) Outgrown
 
 -- "not where l = n" is refused, "8 before 9"
 unfoldable pub negatedOf : Envelope → Made

@@ -1,16 +1,16 @@
 -- What is proved of streams and envelopes, one field for each promise.
 use mathlib.Core.Path.{_≡_}
+use mathlib.Core.Bool.{true}
 use mathlib.Core.List.{List}
 use mathlib.Core.Logic.{_↔_}
 use Prim.Native.Nat.{ℕ, _≤_, _<_}
 use lib.IntN.{ℤ}
 use Rattle.envelope.specs.declared.Envelope.{Envelope}
-use Rattle.envelope.specs.declared.Standing.the-variants.{Fine}
 use Rattle.envelope.specs.Stream.{Stream, Position, Within, Lies, Has, notBits, onBits}
 use Rattle.envelope.specs.Envelope.{Normal, Limits, Room, Taken, normalOf, notOf, onOf}
 use Rattle.envelope.specs.Word.{onesIn, wordBit, wordOf, LegalWord}
-use Rattle.envelope.specs.Standing.{standingOf}
 use Rattle.envelope.specs.Made.{Fields}
+use Rattle.envelope.specs.Inner.Tests.{isTaken}
 
 -- "p(j) is the position of the 1 that has j 1s before it": every j has one, and one only
 pub record Positions : Type 0 where
@@ -40,4 +40,4 @@ pub record Accepted : Type 0 where
   pub on : (e f : Envelope) → Taken e → Taken f → Limits (onOf e f) → Taken (onOf e f)
   pub word : (u v : List ℕ) → LegalWord u v → Taken (wordOf u v)
   -- the test of any four numbers is right
-  pub standing : (e : Envelope) → (standingOf e ≡ Fine) ↔ Taken e
+  pub taken : (e : Envelope) → (isTaken e ≡ true) ↔ Taken e

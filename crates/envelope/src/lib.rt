@@ -5,28 +5,17 @@ ghost use lib.IntN.{pos, _+ℤ_, _-ℤ_, _*ℤ_};
 ghost use lib.Signed.{_≤ℤ_};
 ghost use lib.ListN.{length, take, drop};
 ghost use Rattle.envelope.specs.Limits.{lMost, lowerLeast, lowerMost};
-ghost use Rattle.envelope.specs.Envelope.{Limits, Taken, resultOf, normalOf, notOf, onOf};
+ghost use Rattle.envelope.specs.Envelope.{Limits, withinLimits, hasRoom, Taken, resultOf, normalOf, notOf, onOf};
 ghost use Rattle.envelope.specs.Word.{bitAt, onesIn, wordOf};
-ghost use Rattle.envelope.specs.Standing.{beyondOf, hasRoom, restOf, standingOf};
 ghost use Rattle.envelope.specs.Made.{Fields, declaredOf, limited, negatedOf, joinedOf};
 ghost use Rattle.envelope.specs.Inner.Span.{withOf, spanOf};
+ghost use Rattle.envelope.specs.Inner.Tests.{isTaken};
 
 pub struct Envelope {
     pub k: i64,
     pub K: i64,
     pub l: u64,
     pub n: u64,
-}
-
-// A taken, normal envelope, or the first limit that is not kept.
-pub enum Standing {
-    Fine,
-    BeyondLower,
-    BeyondUpper,
-    BeyondL,
-    BeyondN,
-    NoRoom,
-    CommonFactor,
 }
 
 // What an evaluated node comes to.
@@ -94,28 +83,17 @@ impl Envelope {
         Envelope::normal(k, top, self.l * b.l, self.n * b.n)
     }
 
-    // Whether k, K and l keep to their limits, in this order.
-    pub fn beyond(self) -> Standing
-        ensures { λ r. ⌜ r ≡ beyondOf self ⌝ }
+    // Whether l, k and K are within their limits.
+    fn within_limits(self) -> bool
+        ensures { λ r. ⌜ r ≡ withinLimits self ⌝ }
     {
         let k = self.k;
         let top = self.K;
-        if k < Self::LOWER_LEAST {
-            return Standing::BeyondLower;
-        }
-        if Self::LOWER_MOST < k {
-            return Standing::BeyondLower;
-        }
-        if top < Self::UPPER_LEAST {
-            return Standing::BeyondUpper;
-        }
-        if Self::UPPER_MOST < top {
-            return Standing::BeyondUpper;
-        }
-        if Self::L_MOST < self.l {
-            return Standing::BeyondL;
-        }
-        Standing::Fine
+        Self::LOWER_LEAST <= k
+            && k <= Self::LOWER_MOST
+            && Self::UPPER_LEAST <= top
+            && top <= Self::UPPER_MOST
+            && self.l <= Self::L_MOST
     }
 
     // Whether some stream lies in it, if it is normal.
@@ -129,36 +107,15 @@ impl Envelope {
         n - 1 <= top - k
     }
 
-    // n, the room and the common factor, of an envelope whose l, k and K keep to their limits.
-    fn rest(self) -> Standing
-        requires { ⌜ Limits self ⌝ }
-        ensures { λ r. ⌜ r ≡ restOf self ⌝ }
-    {
-        if self.n < 1 {
-            return Standing::BeyondN;
-        }
-        if self.l < self.n {
-            return Standing::BeyondN;
-        }
-        if !self.has_room() {
-            return Standing::NoRoom;
-        }
-        if whole::gcd(self.l, self.n) == 1 {
-            return Standing::Fine;
-        }
-        Standing::CommonFactor
-    }
-
     // Whether any four numbers are a taken, normal envelope.
-    pub fn standing(self) -> Standing
-        ensures { λ r. ⌜ r ≡ standingOf self ⌝ }
+    pub fn is_taken(self) -> bool
+        ensures { λ r. ⌜ r ≡ isTaken self ⌝ }
     {
-        let first = self.beyond();
-        if let Standing::Fine = first {
-            self.rest()
-        } else {
-            first
-        }
+        self.within_limits()
+            && 1 <= self.n
+            && self.n <= self.l
+            && self.has_room()
+            && whole::gcd(self.l, self.n) == 1
     }
 
     // A declared node of four fields within their limits.
@@ -176,7 +133,7 @@ impl Envelope {
     fn limited_to(self) -> Made
         ensures { λ r. ⌜ r ≡ limited self ⌝ }
     {
-        if let Standing::Fine = self.beyond() {
+        if self.within_limits() {
             return Made::Whole(Node { envelope: self });
         }
         Made::Outgrown

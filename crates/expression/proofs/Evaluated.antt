@@ -1,6 +1,6 @@
 -- Every node that the rules give an expression is taken, and what each rule went through. Assumes nothing.
 use mathlib.Core.Path.{_≡_, refl, sym, subst}
-use mathlib.Core.Bool.{Bool, true, false, _&&_}
+use mathlib.Core.Bool.{Bool, true, false}
 use mathlib.Core.List.{List}
 use mathlib.Core.Option.{Option, none, some}
 use Prim.Native.Nat.{ℕ, _<_}
@@ -20,6 +20,7 @@ use Rattle.envelope.specs.declared.Made.the-variants.{Whole, Empty, FullRate, O
 use Rattle.envelope.specs.Limits.{lMost, lowerLeast, lowerMost, upperLeast, upperMost}
 use Rattle.envelope.specs.Envelope.{Taken, normalOf, notOf, onOf}
 use Rattle.envelope.specs.Made.{nodeOf, Fields, declaredOf, negatedOf, joinedOf}
+use Rattle.envelope.proofs.Tests.{both-true}
 use Rattle.envelope.proofs.Makings.{declared-whole, negated-whole, joined-whole}
 use Rattle.envelope.proofs.Taken.{declared-taken, not-taken, on-taken}
 use Rattle.expression.specs.Expression.{Expr}
@@ -50,10 +51,6 @@ listed-whole (some a) x h = cc
 pick-whole : (t : Bool) (m : Worth) (number : ℕ) (x : Node) → pick t m (fault number) ≡ whole x → (t ≡ true) × (m ≡ whole x)
 pick-whole true m number x h = (refl, h)
 pick-whole false m number x h = fault-whole h
-
-both-true : (s t : Bool) → s && t ≡ true → (s ≡ true) × (t ≡ true)
-both-true true t h = (refl, h)
-both-true false t h = let z : _≡_ {A = ℕ} 0 1 = cc in absurd (omega arith)
 
 -- ---- each rule
 

@@ -4,10 +4,10 @@ use mathlib.Core.Path.{_≡_, refl}
 use Rattle.whole.specs.Euclid.{euclid, gcdOf}
 use Rattle.field.specs.Field.{lowFirst, fieldAt, fieldIn, signed, signedAt, signedIn}
 use Rattle.envelope.specs.Stream.{ones}
-use Rattle.envelope.specs.Envelope.{resultOf, normalOf, notOf, onOf}
+use Rattle.envelope.specs.Envelope.{withinLimits, hasRoom, resultOf, normalOf, notOf, onOf}
 use Rattle.envelope.specs.Word.{onesIn, wordBit, offsets, wordOf}
-use Rattle.envelope.specs.Standing.{hasRoom, beyondOf, restOf, standingOf}
 use Rattle.envelope.specs.Made.{declaredOf, limited, negatedOf, joinedOf}
+use Rattle.envelope.specs.Inner.Tests.{isTaken}
 use Rattle.link.specs.Link.{sizeOf, earlyOf, verdictOf}
 use Rattle.expression.specs.Evaluate.{fieldsKept, declaredWorth}
 use Rattle.field.specs.Format.{run}
@@ -24,5 +24,5 @@ use Rattle.pattern.specs.Walk.{walkFrom, walkOver}
 use Rattle.figures.specs.Figures.{figures, said}
 
 pub as-said : figures ≡ said
-unfolding euclid gcdOf lowFirst fieldAt fieldIn signed signedAt signedIn ones resultOf normalOf notOf onOf onesIn wordBit offsets wordOf hasRoom beyondOf restOf standingOf declaredOf limited negatedOf joinedOf sizeOf earlyOf verdictOf fieldsKept declaredWorth run expression parts exprAt flats rowsAt sectionAt bitsAt wordAt clockAt linkAt readFrom readSheet total openRoom wholeRoom workedOf flatRows nots low high oneMay zeroMay checkAnswer firstAnswer firstBytes nextAnswer nextBytes walkFrom walkOver
+unfolding euclid gcdOf lowFirst fieldAt fieldIn signed signedAt signedIn ones resultOf normalOf notOf onOf onesIn wordBit offsets wordOf withinLimits hasRoom isTaken declaredOf limited negatedOf joinedOf sizeOf earlyOf verdictOf fieldsKept declaredWorth run expression parts exprAt flats rowsAt sectionAt bitsAt wordAt clockAt linkAt readFrom readSheet total openRoom wholeRoom workedOf flatRows nots low high oneMay zeroMay checkAnswer firstAnswer firstBytes nextAnswer nextBytes walkFrom walkOver
 as-said = refl

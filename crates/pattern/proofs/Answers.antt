@@ -17,14 +17,14 @@ use borrow.Author.Tests.{lt-ltb, le-ltb}
 use Rattle.reply.specs.Numbers.{noEnvelope, longPattern, notABit}
 use Rattle.envelope.specs.declared.Envelope.{Envelope}
 use Rattle.envelope.specs.Envelope.{Taken}
-use Rattle.envelope.specs.Standing.{standingOf}
+use Rattle.envelope.specs.Inner.Tests.{isTaken}
 use Rattle.pattern.specs.declared.Mark.{Mark}
 use Rattle.pattern.specs.declared.Answer.{Answer}
 use Rattle.pattern.specs.declared.Answer.the-variants.{Inside, Done, Last, Refused}
 use Rattle.pattern.specs.declared.Judged.{Judged}
 use Rattle.pattern.specs.declared.Judged.the-variants.{Sound, Unsound}
 use Rattle.pattern.specs.Pattern.{longest, plain}
-use Rattle.pattern.specs.Answer.{given, isFine, checkAnswer, firstAnswer, firstBytes, nextOf, nextAnswer, nextBytes, Checks, Firsts, Nexts}
+use Rattle.pattern.specs.Answer.{given, checkAnswer, firstAnswer, firstBytes, nextOf, nextAnswer, nextBytes, Checks, Firsts, Nexts}
 use Rattle.pattern.specs.Inner.Scan.{Near, onward, filled, reached, markOf, scanned, judged}
 use Rattle.pattern.proofs.Offsets.{offset-start, filled-is, near-on, near-more, near-held, near-reached}
 use Rattle.pattern.proofs.Replies.{fromMark, next-mark, Sane, sane, answerOf, judged-check, Passes, sound-is}
@@ -48,7 +48,7 @@ module _ (k K : ℤ) (l n : ℕ) (f : SFits w64 k) (g : SFits w64 K) where
 
 module _ (e : Envelope) (p : List ℕ) where
   -- ---- judge
-  module _ (fine : isFine (standingOf e) ≡ true) where
+  module _ (fine : isTaken e ≡ true) where
     pub judge-long : longest < length p → Unsound longPattern 0 ≡ judged e p
     unfolding judged
     judge-long h = rw (fine, lt-ltb longest (length p) h)
@@ -64,7 +64,7 @@ module _ (e : Envelope) (p : List ℕ) where
       unfolding judged
       judge-scan j k q = rw (fine, le-ltb longest (length p) short, le-ltb (plain p) (length p) k) q
 
-  pub judge-none : isFine (standingOf e) ≡ false → Unsound noEnvelope 0 ≡ judged e p
+  pub judge-none : isTaken e ≡ false → Unsound noEnvelope 0 ≡ judged e p
   unfolding judged
   judge-none h = rw h
 
@@ -73,15 +73,15 @@ module _ (e : Envelope) (p : List ℕ) where
   check-is j q = ap (answerOf e) q ∙ judged-check e p
 
   -- ---- first
-  pub first-none : isFine (standingOf e) ≡ false → Firsts e p (Refused noEnvelope 0) p
+  pub first-none : isTaken e ≡ false → Firsts e p (Refused noEnvelope 0) p
   unfolding firstAnswer firstBytes
   first-none h = record { answer-is = rw h; bytes-are = rw h }
 
-  pub first-long : isFine (standingOf e) ≡ true → longest < length p → Firsts e p (Refused longPattern 0) p
+  pub first-long : isTaken e ≡ true → longest < length p → Firsts e p (Refused longPattern 0) p
   unfolding firstAnswer firstBytes
   first-long f h = record { answer-is = rw (f, lt-ltb longest (length p) h); bytes-are = rw (f, lt-ltb longest (length p) h) }
 
-  pub first-done : isFine (standingOf e) ≡ true → length p ≤ longest → (q : List ℕ) → q ≡ filled e (pos 0) (length p - 0) → Firsts e p Done q
+  pub first-done : isTaken e ≡ true → length p ≤ longest → (q : List ℕ) → q ≡ filled e (pos 0) (length p - 0) → Firsts e p Done q
   unfolding firstAnswer firstBytes
   first-done f h q w =
       let all : filled e (pos 0) (length p) ≡ filled e _ (length p) = ap (λ (d : ℤ). filled e d (length p)) (sym (offset-start e)) in

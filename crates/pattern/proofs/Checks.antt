@@ -13,16 +13,15 @@ use borrow.Author.Tests.{ltb-true, ltb-false, leb-false, le-ltb}
 use Rattle.reply.specs.Numbers.{noEnvelope, longPattern, notABit, outside}
 use Rattle.envelope.specs.declared.Envelope.{Envelope}
 use Rattle.envelope.specs.Envelope.{Taken}
-use Rattle.envelope.specs.Standing.{standingOf}
+use Rattle.envelope.specs.Inner.Tests.{isTaken}
+use Rattle.envelope.proofs.Tests.{is-true, to-T, is-taken, taken-is}
 use Rattle.pattern.specs.declared.Answer.{Answer}
 use Rattle.pattern.specs.declared.Answer.the-variants.{Refused}
 use Rattle.pattern.specs.Step.{oneMay, zeroMay}
 use Rattle.pattern.specs.Pattern.{longest, after, may, Inside, passed, plain}
 use Rattle.pattern.specs.Beginning.{Begins}
-use Rattle.pattern.specs.Answer.{numberOf, isFine, stepsOf, checkAnswer}
-use Rattle.pattern.proofs.Walking.{is-true, to-T}
+use Rattle.pattern.specs.Answer.{numberOf, stepsOf, checkAnswer}
 use Rattle.pattern.proofs.Binary.{Bits}
-use Rattle.pattern.proofs.Replies.{is-taken, taken-is}
 use Rattle.pattern.proofs.Beginnings.{begins-in, in-begins}
 
 -- ---- what is inside passes every step, and is of bits
@@ -107,9 +106,9 @@ module _ (e : Envelope) where
 
   pub checked : (p : List ℕ) → Checked p (checkAnswer e p)
   unfolding checkAnswer
-  checked p = go (isFine (standingOf e)) (ltb longest (length p)) (ltb (plain p) (length p)) (ltb (stepsOf e p) (length p)) refl refl refl refl
+  checked p = go (isTaken e) (ltb longest (length p)) (ltb (plain p) (length p)) (ltb (stepsOf e p) (length p)) refl refl refl refl
     where
-      go : (a b c d : Bool) → isFine (standingOf e) ≡ a → ltb longest (length p) ≡ b → ltb (plain p) (length p) ≡ c → ltb (stepsOf e p) (length p) ≡ d → Checked p (cond a (cond b (Refused longPattern 0) (cond c (Refused notABit (plain p)) (cond d (Refused outside (stepsOf e p)) Answer.Inside))) (Refused noEnvelope 0))
+      go : (a b c d : Bool) → isTaken e ≡ a → ltb longest (length p) ≡ b → ltb (plain p) (length p) ≡ c → ltb (stepsOf e p) (length p) ≡ d → Checked p (cond a (cond b (Refused longPattern 0) (cond c (Refused notABit (plain p)) (cond d (Refused outside (stepsOf e p)) Answer.Inside))) (Refused noEnvelope 0))
       go false b c d ea eb ec ed = no-envelope (λ t. false≢true (sym ea ∙ taken-is e t))
       go true true c d ea eb ec ed = too-long (is-taken e ea) (ltb-true longest (length p) eb)
       go true false true d ea eb ec ed = no-bit (is-taken e ea) (ltb-false longest (length p) eb) (ltb-true (plain p) (length p) ec)

@@ -10,9 +10,10 @@ use mathlib.Core.List.{List, [], _∷_, List·Memᴰ·head}
 use mathlib.Core.Option.{Option, none, some}
 use lib.ListN.{length}
 use lib.Dec.{T}
+use Rattle.envelope.proofs.Tests.{is-true, to-T}
 use Rattle.pattern.specs.Pattern.{after, may, Inside, fill, raised, behind, next}
 use Rattle.pattern.proofs.Lists.{Less}
-use Rattle.pattern.proofs.Walking.{is-true, to-T, walked}
+use Rattle.pattern.proofs.Walking.{walked}
 
 -- r is n or comes after it; where n is none, nothing does
 abbrev pub From : Option (List ℕ) → List ℕ → Type 0

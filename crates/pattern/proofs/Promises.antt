@@ -10,6 +10,7 @@ use lib.Dec.{ltb}
 use borrow.Author.Tests.{ltb-true, ltb-false, le-ltb}
 use Rattle.envelope.specs.declared.Envelope.{Envelope}
 use Rattle.envelope.specs.Envelope.{Taken}
+use Rattle.envelope.proofs.Tests.{taken-is}
 use Rattle.pattern.specs.Step.{oneMay, zeroMay}
 use Rattle.pattern.specs.Pattern.{longest, Inside, fill, number}
 use Rattle.pattern.specs.Answer.{firstAnswer, firstBytes, nextOf}
@@ -17,7 +18,6 @@ use Rattle.pattern.specs.Walk.{Steps, Walks, Patterns}
 use Rattle.pattern.proofs.Lists.{Follows}
 use Rattle.pattern.proofs.Walking.{Walked}
 use Rattle.pattern.proofs.Binary.{less-number, rises-at, at-place, place-in}
-use Rattle.pattern.proofs.Replies.{taken-is}
 use Rattle.pattern.proofs.Beginnings.{begins-in, in-begins, walk-in}
 use Rattle.pattern.proofs.Checks.{inside-bits, Passing, inside-is}
 use Rattle.pattern.proofs.Table.{refusals}

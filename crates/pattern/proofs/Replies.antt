@@ -15,11 +15,9 @@ use lib.Dec.{leb, ltb, leb·suc-suc, leb·zero}
 use borrow.Author.Tests.{ltb-false, leb-true}
 use Rattle.reply.specs.Numbers.{noEnvelope, longPattern, notABit, outside}
 use Rattle.envelope.specs.declared.Envelope.{Envelope}
-use Rattle.envelope.specs.declared.Standing.{Standing}
-use Rattle.envelope.specs.declared.Standing.the-variants.{Fine, BeyondLower, BeyondUpper, BeyondL, BeyondN, NoRoom, CommonFactor}
 use Rattle.envelope.specs.Envelope.{Taken}
-use Rattle.envelope.specs.Standing.{standingOf}
-use Rattle.envelope.proofs.Standings.{standing-fine, fine-standing}
+use Rattle.envelope.specs.Inner.Tests.{isTaken}
+use Rattle.envelope.proofs.Tests.{is-taken}
 use Rattle.pattern.specs.declared.Mark.{Mark}
 use Rattle.pattern.specs.declared.Answer.{Answer}
 use Rattle.pattern.specs.declared.Answer.the-variants.{Inside, Refused}
@@ -27,33 +25,10 @@ use Rattle.pattern.specs.declared.Judged.{Judged}
 use Rattle.pattern.specs.declared.Judged.the-variants.{Sound, Unsound}
 use Rattle.pattern.specs.Step.{oneMay, zeroMay}
 use Rattle.pattern.specs.Pattern.{longest, after, may, passed, next, raised, plain}
-use Rattle.pattern.specs.Answer.{isFine, stepsOf, nextOf, checkAnswer}
+use Rattle.pattern.specs.Answer.{stepsOf, nextOf, checkAnswer}
 use Rattle.pattern.specs.Inner.Scan.{Near, oneAt, onward, filled, reached, marked, unmarked, lastMark, markOf, scanned, judged}
 use Rattle.pattern.proofs.Binary.{Bits}
 use Rattle.pattern.proofs.Offsets.{offsetOf, offset-start, onward-is, one-is, may-is, filled-is, near-start, near-on}
-
--- ---- four numbers that are a taken, normal envelope
-fine-true : (s : Standing) → isFine s ≡ true → s ≡ Fine
-fine-true Fine h = refl
-fine-true BeyondLower h = let w : _≡_ {A = ℕ} 0 1 = cc in absurd (omega arith)
-fine-true BeyondUpper h = let w : _≡_ {A = ℕ} 0 1 = cc in absurd (omega arith)
-fine-true BeyondL h = let w : _≡_ {A = ℕ} 0 1 = cc in absurd (omega arith)
-fine-true BeyondN h = let w : _≡_ {A = ℕ} 0 1 = cc in absurd (omega arith)
-fine-true NoRoom h = let w : _≡_ {A = ℕ} 0 1 = cc in absurd (omega arith)
-fine-true CommonFactor h = let w : _≡_ {A = ℕ} 0 1 = cc in absurd (omega arith)
-
-pub fine-false : (s : Standing) → (s ≡ Fine → ⊥) → isFine s ≡ false
-fine-false s f = go (isFine s) refl
-  where
-    go : (b : Bool) → isFine s ≡ b → b ≡ false
-    go true q = absurd (f (fine-true s q))
-    go false q = refl
-
-pub is-taken : (e : Envelope) → isFine (standingOf e) ≡ true → Taken e
-is-taken e h = standing-fine e (fine-true (standingOf e) h)
-
-pub taken-is : (e : Envelope) → Taken e → isFine (standingOf e) ≡ true
-taken-is e t = ap isFine (fine-standing e t)
 
 -- ---- bytes that are all bits
 pub bits-of : (p : List ℕ) → length p ≤ plain p → Bits p
@@ -168,7 +143,7 @@ module _ (e : Envelope) where
 
   pub judged-check : (p : List ℕ) → answerOf (judged e p) ≡ checkAnswer e p
   unfolding judged checkAnswer
-  judged-check p = go (isFine (standingOf e)) (ltb longest (length p)) (ltb (plain p) (length p)) refl
+  judged-check p = go (isTaken e) (ltb longest (length p)) (ltb (plain p) (length p)) refl
     where
       steps : (c : Bool) → answerOf (cond c (Unsound outside (stepsOf e p)) (Sound (reached e (pos 0) p))) ≡ cond c (Refused outside (stepsOf e p)) Inside
       steps true = refl
@@ -189,13 +164,13 @@ module _ (e : Envelope) where
 
   pub sound-is : (p : List ℕ) (end : ℤ) → Sound end ≡ judged e p → Passes p end
   unfolding judged
-  sound-is p end h = go (isFine (standingOf e)) (ltb longest (length p)) (ltb (plain p) (length p)) refl refl refl h
+  sound-is p end h = go (isTaken e) (ltb longest (length p)) (ltb (plain p) (length p)) refl refl refl h
     where
       steps : (c : Bool) → Sound end ≡ cond c (Unsound outside (stepsOf e p)) (Sound (reached e (pos 0) p)) → end ≡ reached e (pos 0) p
       steps true q = let w : _≡_ {A = ℕ} 0 1 = cc in absurd (omega arith)
       steps false q = cc
 
-      go : (a b c : Bool) → isFine (standingOf e) ≡ a → ltb longest (length p) ≡ b → ltb (plain p) (length p) ≡ c → Sound end ≡ cond a (cond b (Unsound longPattern 0) (cond c (Unsound notABit (plain p)) (scanned e 0 (pos 0) p))) (Unsound noEnvelope 0) → Passes p end
+      go : (a b c : Bool) → isTaken e ≡ a → ltb longest (length p) ≡ b → ltb (plain p) (length p) ≡ c → Sound end ≡ cond a (cond b (Unsound longPattern 0) (cond c (Unsound notABit (plain p)) (scanned e 0 (pos 0) p))) (Unsound noEnvelope 0) → Passes p end
       go true true c ea eb ec q = let w : _≡_ {A = ℕ} 0 1 = cc in absurd (omega arith)
       go true false true ea eb ec q = let w : _≡_ {A = ℕ} 0 1 = cc in absurd (omega arith)
       go true false false ea eb ec q =

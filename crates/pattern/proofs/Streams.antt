@@ -9,9 +9,9 @@ use mathlib.Core.List.{List, [], _∷_}
 use lib.ListN.{length}
 use lib.Dec.{T}
 use Rattle.envelope.specs.Stream.{Stream, value, ones}
+use Rattle.envelope.proofs.Tests.{is-true, to-T}
 use Rattle.pattern.specs.Pattern.{after, may, Inside}
 use Rattle.pattern.specs.Beginning.{part}
-use Rattle.pattern.proofs.Walking.{is-true, to-T}
 
 pub and-intro : (a b : Bool) → T a → T b → T (a && b)
 and-intro true b s t = t

@@ -14,8 +14,8 @@ use Rattle.envelope.specs.Limits.{lMost}
 use Rattle.envelope.specs.declared.Envelope.{Envelope}
 use Rattle.envelope.specs.Envelope.{Taken}
 use Rattle.envelope.proofs.Held.{k-up, k-down, K-up, K-down}
+use Rattle.envelope.proofs.Tests.{is-true}
 use Rattle.pattern.specs.Inner.Scan.{oneAt, zeroAt, mayAt, stepOf, onward, scanned, leadingOf, floorOf}
-use Rattle.pattern.proofs.Walking.{is-true}
 
 module _ (e : Envelope) where
   -- ---- at x above the floor the bit b leads to y above it

@@ -14,17 +14,16 @@ use borrow.Author.Tests.{ltb-true, lt-ltb, le-ltb, le-leb, lt-leb}
 use Rattle.reply.specs.Numbers.{noEnvelope, longPattern, notABit, outside}
 use Rattle.envelope.specs.declared.Envelope.{Envelope}
 use Rattle.envelope.specs.Envelope.{Taken}
-use Rattle.envelope.specs.Standing.{standingOf}
+use Rattle.envelope.specs.Inner.Tests.{isTaken}
+use Rattle.envelope.proofs.Tests.{is-true, to-T, is-taken, taken-is}
 use Rattle.pattern.specs.declared.Answer.{Answer}
 use Rattle.pattern.specs.declared.Answer.the-variants.{Refused}
 use Rattle.pattern.specs.Step.{oneMay, zeroMay}
 use Rattle.pattern.specs.Pattern.{longest, after, may, Inside, passed, plain}
-use Rattle.pattern.specs.Answer.{isFine, stepsOf, checkAnswer, firstAnswer, nextOf, doneOrLast, ifInside, nextAnswer}
+use Rattle.pattern.specs.Answer.{stepsOf, checkAnswer, firstAnswer, nextOf, doneOrLast, ifInside, nextAnswer}
 use Rattle.pattern.specs.Table.{Unfit, Fit, Refuses}
 use Rattle.pattern.specs.Walk.{Refusals}
-use Rattle.pattern.proofs.Walking.{is-true, to-T}
 use Rattle.pattern.proofs.Loops.{plain-before}
-use Rattle.pattern.proofs.Replies.{is-taken, taken-is}
 use Rattle.pattern.proofs.Checks.{Checked, checked, Checked.is-inside, Checked.no-envelope, Checked.too-long, Checked.no-bit, Checked.forbidden, plain-stops, passed-take, passed-stops}
 
 -- ---- the first byte that is no bit, and the first forbidden step, are where they are found
@@ -74,10 +73,10 @@ module _ (e : Envelope) (p : List ℕ) where
       same (Refuses e p) outside (stepsOf e p) number place r
       (Refuses.forbidden (record { taken = t; short = k }) (λ i h. plain-before p i (omega arith)) l (passed-take (zeroMay e) (oneMay e) p 0 0) (passed-stops (zeroMay e) (oneMay e) p 0 0 l))
 
-  untaken : {A : Type 0} (x y : A) → (Taken e → ⊥) → cond (isFine (standingOf e)) x y ≡ y
-  untaken x y f = go (isFine (standingOf e)) refl
+  untaken : {A : Type 0} (x y : A) → (Taken e → ⊥) → cond (isTaken e) x y ≡ y
+  untaken x y f = go (isTaken e) refl
     where
-      go : (b : Bool) → isFine (standingOf e) ≡ b → cond b x y ≡ y
+      go : (b : Bool) → isTaken e ≡ b → cond b x y ≡ y
       go true q = absurd (f (is-taken e q))
       go false q = refl
 
@@ -96,9 +95,9 @@ module _ (e : Envelope) (p : List ℕ) where
   -- ---- first
   first-listed : (number place : ℕ) → firstAnswer e p ≡ Refused number place → Unfit e p number place
   unfolding firstAnswer
-  first-listed number place r = go (isFine (standingOf e)) (ltb longest (length p)) refl refl r
+  first-listed number place r = go (isTaken e) (ltb longest (length p)) refl refl r
     where
-      go : (a b : Bool) → isFine (standingOf e) ≡ a → ltb longest (length p) ≡ b → cond a (cond b (Refused longPattern 0) Answer.Done) (Refused noEnvelope 0) ≡ Refused number place → Unfit e p number place
+      go : (a b : Bool) → isTaken e ≡ a → ltb longest (length p) ≡ b → cond a (cond b (Refused longPattern 0) Answer.Done) (Refused noEnvelope 0) ≡ Refused number place → Unfit e p number place
       go true true x y r = same (Unfit e p) longPattern 0 number place r (Unfit.too-long (is-taken e x) (ltb-true longest (length p) y))
       go true false x y r = let w : _≡_ {A = ℕ} 0 1 = cc in absurd (omega arith)
       go false b x y r = same (Unfit e p) noEnvelope 0 number place r (Unfit.no-envelope (λ t. let w : _≡_ {A = Bool} false true = sym x ∙ taken-is e t in let v : _≡_ {A = ℕ} 0 1 = cc in omega arith))

@@ -8,16 +8,9 @@ use mathlib.Core.Bool.{Bool, true, false, false≢true}
 use mathlib.Core.List.{List, [], _∷_, _++_, map, List·Memᴰ, List·Memᴰ·head, List·Memᴰ·cases-cons, List·Memᴰ·not-nil, List·Memᴰ·append-cases, Memᴰ·append-left, Memᴰ·append-right, Memᴰ·map, Memᴰ·of-map}
 use mathlib.Core.Option.{Option, none, some}
 use lib.ListN.{length}
-use lib.Dec.{T}
+use Rattle.envelope.proofs.Tests.{to-T}
 use Rattle.pattern.specs.Pattern.{after, Inside, least, fill, raised, next}
 use Rattle.pattern.proofs.Lists.{Rising, Below, Follows, rising-map, rising-zeros, zero-below}
-
-pub is-true : (b : Bool) → T b → b ≡ true
-is-true true t = refl
-is-true false t = absurd t
-
-pub to-T : (b : Bool) → b ≡ true → T b
-to-T b e = rw e tt
 
 module _ (z o : ℕ → ℕ → Bool) where
   pub fill-length : (m i j : ℕ) → length (fill z o i j m) ≡ m

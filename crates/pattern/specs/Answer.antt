@@ -2,7 +2,7 @@
 -- "Patterns: 12, 13, 14 over the whole pattern, 15."
 use Prim.Native.Nat.{ℕ}
 use mathlib.Core.Path.{_≡_}
-use mathlib.Core.Bool.{Bool, true, false, cond}
+use mathlib.Core.Bool.{cond}
 use mathlib.Core.List.{List}
 use mathlib.Core.Option.{Option, none, some}
 use lib.IntN.{ℤ}
@@ -10,9 +10,7 @@ use lib.ListN.{length}
 use lib.Dec.{ltb}
 use Rattle.reply.specs.Numbers.{noEnvelope, longPattern, notABit, outside}
 use Rattle.envelope.specs.declared.Envelope.{Envelope}
-use Rattle.envelope.specs.declared.Standing.{Standing}
-use Rattle.envelope.specs.declared.Standing.the-variants.{Fine, BeyondLower, BeyondUpper, BeyondL, BeyondN, NoRoom, CommonFactor}
-use Rattle.envelope.specs.Standing.{standingOf}
+use Rattle.envelope.specs.Inner.Tests.{isTaken}
 use Rattle.pattern.specs.declared.Answer.{Answer}
 use Rattle.pattern.specs.declared.Answer.the-variants.{Inside, Done, Last, Refused}
 use Rattle.pattern.specs.Step.{oneMay, zeroMay}
@@ -29,19 +27,10 @@ numberOf (Refused number place) = number
 abbrev pub given : ℤ → ℤ → ℕ → ℕ → Envelope
 given k K l n = record { k = k; K = K; l = l; n = n }
 
-abbrev pub isFine : Standing → Bool
-isFine Fine = true
-isFine BeyondLower = false
-isFine BeyondUpper = false
-isFine BeyondL = false
-isFine BeyondN = false
-isFine NoRoom = false
-isFine CommonFactor = false
-
 -- "four numbers that are no taken, normal envelope", then "pattern longer than 4,096", both at 0; else a
 abbrev pub admitted : Envelope → List ℕ → Answer → Answer
 admitted e p a =
-    cond (isFine (standingOf e))
+    cond (isTaken e)
     (cond (ltb longest (length p)) (Refused longPattern 0) a)
     (Refused noEnvelope 0)
 

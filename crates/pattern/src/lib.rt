@@ -6,13 +6,11 @@ ghost use lib.IntN.{pos, _+ℤ_};
 ghost use lib.Signed.{_≤ℤ_};
 ghost use lib.ListN.{length, take, drop};
 ghost use Rattle.envelope.specs.Envelope.{Taken};
-ghost use Rattle.envelope.specs.Standing.{standingOf};
 ghost use Rattle.pattern.specs.declared.Judged.the-variants.{Sound};
 ghost use Rattle.pattern.specs.Pattern.{longest, plain};
-ghost use Rattle.pattern.specs.Answer.{given, isFine, Checks, Firsts, Nexts};
+ghost use Rattle.pattern.specs.Answer.{given, Checks, Firsts, Nexts};
 ghost use Rattle.pattern.specs.Inner.Scan.{Near, oneAt, zeroAt, mayAt, stepOf, onward, leastAt, filled, reached, scanned, leadingOf, floorOf, markOf, largestFrom, judged};
 use envelope::Envelope;
-use envelope::Standing;
 
 // A pattern's most bits.
 pub const LONGEST: usize = 4_096;
@@ -251,22 +249,11 @@ fn plain_len(pattern: &[u8]) -> usize
     i
 }
 
-// Whether four numbers are a taken, normal envelope.
-fn is_taken(e: Envelope) -> bool
-    ensures { λ r. ⌜ r ≡ isFine (standingOf e) ⌝ }
-{
-    if let Standing::Fine = e.standing() {
-        true
-    } else {
-        false
-    }
-}
-
 // 12 to 15, or n*i - l*j past a pattern that is inside.
 fn judge(e: Envelope, pattern: &[u8]) -> Judged
     ensures { λ r. ⌜ r ≡ judged e (now (pattern .entry)) ⌝ }
 {
-    if !is_taken(e) {
+    if !e.is_taken() {
         return Judged::Unsound(reply::NO_ENVELOPE, 0);
     }
     if LONGEST < pattern.len() {
@@ -309,7 +296,7 @@ pub fn first(k: i64, K: i64, l: u64, n: u64, pattern: &mut [u8]) -> Answer
     ensures { λ r. ⌜ Firsts (given k K l n) (now (pattern .entry)) r (now (pattern .exit)) ⌝ }
 {
     let e = Envelope { k, K, l, n };
-    if !is_taken(e) {
+    if !e.is_taken() {
         return Answer::Refused(reply::NO_ENVELOPE, 0);
     }
     if LONGEST < pattern.len() {

@@ -1,6 +1,5 @@
 -- What refuses a sheet has a number from 1 to 10, so that 0, 16 and 17 say something else. Assumes nothing.
 use mathlib.Core.Path.{_≡_, refl}
-use mathlib.Core.Bool.{Bool, true, false, _&&_, false≢true}
 use mathlib.Core.List.{List, [], _∷_, _++_, map}
 use Prim.Native.Nat.{ℕ, zero, suc, _+_, _≤_}
 use lib.Dec.{leb}
@@ -12,6 +11,7 @@ use Rattle.field.specs.Format.{Judged.passes, Format}
 use Rattle.field.proofs.Format.{Gives, fails-pick, gives-ranged, fault-gives}
 use Rattle.envelope.specs.declared.Node.{Node}
 use Rattle.envelope.specs.Word.{bitsMost, onesIn}
+use Rattle.envelope.proofs.Tests.{both-true}
 use Rattle.expression.specs.Expression.{depthMost}
 use Rattle.expression.specs.Evaluate.{wordNodes}
 use Rattle.expression.proofs.Format.{Listed, expression-gives}
@@ -70,9 +70,5 @@ listed s (bytes-after o l h n) = refl
 
 pub one-to-ten : (s : List ℕ) (number place : ℕ) → readSheet s ≡ refused number place → (1 ≤ number) × (number ≤ trailing)
 one-to-ten s number place h =
-    let b = both (leb 1 number) (leb number trailing) (listed s (refused-listed s number place h)) in
+    let b = both-true (leb 1 number) (leb number trailing) (listed s (refused-listed s number place h)) in
     (leb-true 1 number (b .0), leb-true number trailing (b .1))
-  where
-    both : (p q : Bool) → (p && q) ≡ true → (p ≡ true) × (q ≡ true)
-    both true q e = (refl, e)
-    both false q e = absurd (false≢true e)

@@ -5,8 +5,8 @@ use borrow.Author.Tests.{not-true, not-false}
 use native.Mathlib.Omega.{arith}
 use mathlib.Core.Path.{sym, _∙_}
 use Rattle.envelope.specs.declared.Envelope.{Envelope}
+use Rattle.envelope.proofs.Tests.{is-taken}
 use Rattle.pattern.proofs.Offsets.{near-start}
-use Rattle.pattern.proofs.Replies.{is-taken}
 use Rattle.pattern.proofs.Answers.{heldOf, firsts-given, first-none, first-long, first-done}
 use Rattle.pattern.proofs.first.Statement.{statement}
 use Rattle.pattern.proofs.first.Tie as tie

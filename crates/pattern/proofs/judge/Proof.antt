@@ -4,7 +4,7 @@ use borrow.Author.Needs.{needs}
 use borrow.Author.Tests.{not-true, not-false}
 use native.Mathlib.Omega.{arith}
 use mathlib.Core.Path.{sym, _∙_}
-use Rattle.pattern.proofs.Replies.{is-taken}
+use Rattle.envelope.proofs.Tests.{is-taken}
 use Rattle.pattern.proofs.Answers.{judge-none, judge-long, judge-unbit, judge-scan}
 use Rattle.pattern.proofs.judge.Statement.{statement}
 use Rattle.pattern.proofs.judge.Tie as tie

@@ -9,12 +9,11 @@ use lib.Dec.{ltb}
 use Rattle.reply.specs.Numbers.{noEnvelope, longPattern, notABit, outside}
 use Rattle.envelope.specs.declared.Envelope.{Envelope}
 use Rattle.envelope.specs.Limits.{lMost}
-use Rattle.envelope.specs.Standing.{standingOf}
+use Rattle.envelope.specs.Inner.Tests.{isTaken}
 use Rattle.pattern.specs.declared.Mark.{Mark}
 use Rattle.pattern.specs.declared.Judged.{Judged}
 use Rattle.pattern.specs.declared.Judged.the-variants.{Sound, Unsound}
 use Rattle.pattern.specs.Pattern.{longest, plain}
-use Rattle.pattern.specs.Answer.{isFine}
 
 -- an offset after i bits is this near to 0
 pub record Near (i : ℕ) (d : ℤ) : Type 0 where
@@ -96,7 +95,7 @@ largestFrom m (b ∷ p) = largestFrom (cond (ltb m b) b m) p
 -- 12 to 15, or the offset past the end
 unfoldable pub judged : Envelope → List ℕ → Judged
 judged e p =
-    cond (isFine (standingOf e))
+    cond (isTaken e)
     (cond (ltb longest (length p)) (Unsound longPattern 0)
     (cond (ltb (plain p) (length p)) (Unsound notABit (plain p))
     (scanned e 0 (pos 0) p)))

@@ -10,8 +10,7 @@ use mir.Facts.{toZ-ofZ}
 use Rattle.envelope.specs.declared.Envelope.{Envelope}
 use Rattle.envelope.specs.declared.Made.the-variants.{Whole, Empty}
 use Rattle.envelope.specs.Limits.{lMost}
-use Rattle.envelope.specs.Envelope.{Limits, normalOf}
-use Rattle.envelope.specs.Standing.{hasRoom}
+use Rattle.envelope.specs.Envelope.{Limits, hasRoom, normalOf}
 use Rattle.envelope.specs.Made.{Fields, nodeOf, declaredOf}
 use Rattle.envelope.proofs.Declared.{normal-limits, normal-n}
 use Rattle.envelope.proofs.Envelope.declared.Statement.{statement}

@@ -11,7 +11,7 @@ use mir.Val.{SFits}
 use Rattle.whole.proofs.Bridge.{signed, diff, up-diff-le, down-diff-le, sfits-small}
 use Rattle.whole.proofs.Machine.{fits-by, back-by, one-is}
 use Rattle.envelope.specs.Limits.{lMost}
-use Rattle.envelope.specs.Standing.{hasRoom}
+use Rattle.envelope.specs.Envelope.{hasRoom}
 use Rattle.envelope.proofs.Held.{small-held, k-held, K-held, room-fits}
 use Rattle.envelope.proofs.Envelope.has_room.Statement.{statement}
 use Rattle.envelope.proofs.Envelope.has_room.Tie as tie
