@@ -2,7 +2,7 @@
 -- Assumes nothing.
 use mathlib.Core.Path.{_≡_, refl, sym, ap, ap₂, _∙_, subst}
 use mathlib.Core.Logic.{_≢_, _↔_}
-use mathlib.Core.Bool.{Bool, true, false}
+use mathlib.Core.Bool.{Bool, true, false, cond}
 use mathlib.Core.List.{List, _++_}
 use Prim.Native.Nat.{ℕ, _+_, _*_, _≤_}
 use native.Mathlib.Omega.{arith}
@@ -10,7 +10,7 @@ use lib.IntN.{ℤ}
 use lib.Dec.{leb}
 use lib.ListN.{length, drop}
 use lib.Seq.{sets}
-use Rattle.field.specs.Read.{Read, Read.got, Read.refused, pick}
+use Rattle.field.specs.Read.{Read, Read.got, Read.refused}
 use Rattle.field.proofs.Read.{refused-got}
 use Rattle.pattern.specs.declared.Answer.{Answer}
 use Rattle.pattern.specs.declared.Answer.the-variants.{Refused}
@@ -67,7 +67,7 @@ unwritten number place q p h = rw (← h)
 unlisted : (x : Read Opened) (r : Listed) (t : List ℕ) → r ≡ listedIn x (length t) → listNumber r ≢ 0 → textIn x t ≡ t
 unlisted (got o c) r t e n = go (leb (length (sheetText o)) (length t)) e
   where
-    go : (b : Bool) → r ≡ pick b (Listed.Text (length (sheetText o))) (Listed.Refused 11 0) → pick b (sets t 0 (sheetText o)) t ≡ t
+    go : (b : Bool) → r ≡ cond b (Listed.Text (length (sheetText o))) (Listed.Refused 11 0) → cond b (sets t 0 (sheetText o)) t ≡ t
     go true e = absurd (n (ap listNumber e))
     go false e = refl
 unlisted (refused number place) r t e n = refl

@@ -28,7 +28,6 @@ use Rattle.link.specs.Link.{sizeOf, verdictOf}
 use Rattle.link.specs.Promise.{Serves}
 use Rattle.pattern.specs.declared.Answer.{Answer}
 use Rattle.pattern.specs.declared.Answer.the-variants.{Inside, Refused}
-use Rattle.pattern.specs.Pattern.{longest}
 use Rattle.pattern.specs.Beginning.{Begins}
 use Rattle.pattern.specs.Answer.{Checks, Firsts, Nexts}
 use Rattle.pattern.specs.Table.{Unfit, Refuses}
@@ -149,9 +148,9 @@ pub record Demand2 : Type 0 where
 -- stream in that envelope exactly once, in binary order, and nothing else. For every accepted link, whichever streams the two clocks can stand for, or any
 -- others inside their envelopes: after any number of instants, reads never exceed writes, and writes minus reads never exceed the size given."
 pub record Demand3 : Type 0 where
-  pub walk : (e : Envelope) → Taken e → (m : ℕ) → m ≤ longest → Walks e m
+  pub walk : (e : Envelope) → Taken e → (m : ℕ) → m ≤ 4_096 → Walks e m
   -- "check" answers inside exactly for those beginnings
-  pub inside : (e : Envelope) → Taken e → (p : List ℕ) (a : Answer) → Checks e p a → (a ≡ Inside) ↔ ((length p ≤ longest) × Begins e p)
+  pub inside : (e : Envelope) → Taken e → (p : List ℕ) (a : Answer) → Checks e p a → (a ≡ Inside) ↔ ((length p ≤ 4_096) × Begins e p)
   -- link m of a sheet that is worked out: its verdict in the result slice is 0, accepted, and the number after that is the size given
   pub links : (s : List ℕ) → AllBytes s → (clocks links : List ℤ) (r : Reply) (cs ls : List ℤ) → WorksOut s clocks links r cs ls → r .number ≡ 0
       → (o : Opened) → Passed s o → (m : ℕ) (l : Link) → getElem? (o .sheet .links) m ≡ some l

@@ -3,7 +3,6 @@ use mathlib.Core.Bool.{cond}
 use Prim.Native.Nat.{ℕ, _≤_}
 use lib.IntN.{ℤ}
 use lib.Dec.{eqb}
-use Rattle.reply.specs.Numbers.{empty, fullRate, outgrown}
 use Rattle.envelope.specs.declared.Envelope.{Envelope}
 use Rattle.envelope.specs.declared.Node.{Node}
 use Rattle.envelope.specs.declared.Made.{Made}
@@ -13,9 +12,9 @@ use Rattle.envelope.specs.Envelope.{Limits, withinLimits, hasRoom, norma
 -- document 01's number for each: 0 where there is an envelope
 abbrev pub numberOf : Made → ℕ
 numberOf (Whole e) = 0
-numberOf Empty = empty
-numberOf FullRate = fullRate
-numberOf Outgrown = outgrown
+numberOf Empty = 7
+numberOf FullRate = 8
+numberOf Outgrown = 9
 
 abbrev pub nodeOf : Envelope → Node
 nodeOf e = record { envelope = e }

@@ -1,10 +1,10 @@
 -- The entry points' answers as C has them: structs of numbers.
+use mathlib.Core.Bool.{cond}
 use mathlib.Core.List.{List}
 use Prim.Native.Nat.{ℕ}
 use lib.Dec.{leb}
 use lib.ListN.{length}
 use Rattle.reply.specs.Numbers.{shortResult}
-use Rattle.field.specs.Read.{pick}
 use Rattle.sheet.specs.declared.Reply.{Reply}
 use Rattle.register.specs.declared.Closing.{Closing}
 use Rattle.register.specs.declared.QuoteReply.{QuoteReply}
@@ -46,7 +46,7 @@ copied r bytes = record { number = r .number; place = r .place; length = bytes }
 
 -- the part's length; or that the buffer is too short for it
 abbrev pub quoteWritten : QuoteReply → List ℕ → ℕ → TxoriWritten
-quoteWritten r part room = pick (leb (length part) room) (copied r (length part)) short
+quoteWritten r part room = cond (leb (length part) room) (copied r (length part)) short
 
 -- the length of the listing; or the refusal, with length 0
 abbrev pub listWritten : Listed → TxoriWritten

@@ -1,6 +1,6 @@
 -- Every node that the rules give an expression is taken, and what each rule went through. Assumes nothing.
 use mathlib.Core.Path.{_≡_, refl, sym, subst}
-use mathlib.Core.Bool.{Bool, true, false}
+use mathlib.Core.Bool.{Bool, true, false, cond}
 use mathlib.Core.List.{List}
 use mathlib.Core.Option.{Option, none, some}
 use Prim.Native.Nat.{ℕ, _<_}
@@ -10,7 +10,6 @@ use lib.Dec.{leb}
 use lib.ListN.{length, getElem?}
 use borrow.Author.Tests.{leb-true}
 use Rattle.reply.specs.Numbers.{beyond}
-use Rattle.field.specs.Read.{pick}
 use Rattle.field.specs.Field.{betweenZ}
 use Rattle.field.proofs.SignedFields.{betweenZ-true}
 use Rattle.envelope.specs.declared.Envelope.{Envelope}
@@ -48,9 +47,9 @@ pub listed-whole : (o : Option Node) (x : Node) → listed o ≡ whole x → o �
 listed-whole none x h = fault-whole h
 listed-whole (some a) x h = cc
 
-pick-whole : (t : Bool) (m : Worth) (number : ℕ) (x : Node) → pick t m (fault number) ≡ whole x → (t ≡ true) × (m ≡ whole x)
-pick-whole true m number x h = (refl, h)
-pick-whole false m number x h = fault-whole h
+cond-whole : (t : Bool) (m : Worth) (number : ℕ) (x : Node) → cond t m (fault number) ≡ whole x → (t ≡ true) × (m ≡ whole x)
+cond-whole true m number x h = (refl, h)
+cond-whole false m number x h = fault-whole h
 
 -- ---- each rule
 
@@ -81,7 +80,7 @@ result e x h t = record { same = h; taken = subst (λ (y : Node). Taken (y .enve
 pub declared-result : (k K : ℤ) (l n : ℕ) (x : Node) → declaredWorth k K l n ≡ whole x → Fields k K l n × Result (normalOf k K l n) x
 unfolding declaredWorth
 declared-result k K l n x h =
-    let p = pick-whole (fieldsKept k K l n) _ beyond x h in
+    let p = cond-whole (fieldsKept k K l n) _ beyond x h in
     let q = declared-whole k K l n (worth-whole (declaredOf k K l n) x (p .1)) in
     let f = fields-kept k K l n (p .0) in
     (f, result _ x (q .0) (declared-taken k K l n f (q .1)))

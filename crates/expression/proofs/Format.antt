@@ -1,6 +1,6 @@
 -- The reader of an expression is the reader of its format. Assumes nothing.
 use mathlib.Core.Path.{_≡_, refl, sym, ap, _∙_}
-use mathlib.Core.Bool.{true, _&&_}
+use mathlib.Core.Bool.{true, cond, _&&_}
 use mathlib.Core.List.{List}
 use mathlib.Core.Option.{Option, none, some}
 use Prim.Native.Nat.{ℕ, zero, suc, _+_}
@@ -9,9 +9,10 @@ use lib.Dec.{leb, ltb}
 use lib.ListN.{length, getElem?}
 use borrow.Author.Tests.{le-leb, le-ltb, lt-ltb}
 use Rattle.reply.specs.Numbers.{beyond, unknown, absent, tooDeep, trailing}
-use Rattle.field.specs.Read.{Read, Read.got, Read.refused, bind, pick}
+use Rattle.field.specs.Read.{Read, Read.got, Read.refused, bind}
 use Rattle.field.specs.Field.{fieldAt, fieldIn}
-use Rattle.field.specs.Format.{settled, run, Format}
+use Rattle.field.specs.Format.{Format}
+use Rattle.field.specs.Run.{settled, run}
 use Rattle.field.proofs.Format.{bind-known, bind-same, bind-assoc, ranged-run, signed-run, Fails, Gives, gives-ranged, gives-signed}
 use Rattle.envelope.specs.declared.Node.{Node}
 use Rattle.envelope.specs.declared.Made.{Made}
@@ -42,7 +43,7 @@ numberOf Tag.clock = 5
 
 -- after the tag, by its number
 tag-by : {A : Type 0} (go : Tag → ℕ → Read A) (to : ℕ → ℕ → Read A) (a : ℕ) → ((t : Tag) (c : ℕ) → go t c ≡ to (numberOf t) c)
-    → (v c : ℕ) → (bind (settled (tagOf v) c a) go) ≡ (bind (pick (leb 1 v) (pick (ltb v 6) (got v c) (refused unknown a)) (refused unknown a)) to)
+    → (v c : ℕ) → (bind (settled (tagOf v) c a) go) ≡ (bind (cond (leb 1 v) (cond (ltb v 6) (got v c) (refused unknown a)) (refused unknown a)) to)
 tag-by go to a h zero c = refl
 tag-by go to a h (suc zero) c = h Tag.word c
 tag-by go to a h (suc (suc zero)) c = h Tag.declared c
@@ -78,7 +79,7 @@ module _ (s : List ℕ) where
     where
       go : (i d : ℕ) (r : Option Node) → getElem? xs i ≡ r
           → bind (settled (found (make i) r) d c) (placed a)
-          ≡ (bind (pick (leb 0 i) (pick (ltb i (length xs)) (got i d) (refused absent c)) (refused absent c)) λ i d. place (make i) (listed (getElem? xs i)) d a)
+          ≡ (bind (cond (leb 0 i) (cond (ltb i (length xs)) (got i d) (refused absent c)) (refused absent c)) λ i d. place (make i) (listed (getElem? xs i)) d a)
       go i d none e = rw (le-leb 0 i (omega arith), le-ltb i (length xs) (lookup-none xs i e))
       go i d (some x) e = rw (le-leb 0 i (omega arith), lt-ltb i (length xs) (lookup-below xs i x e), e)
 

@@ -1,6 +1,6 @@
 -- What the rules make of an expression: a node with its envelope, or the number of a refusal.
 use mathlib.Core.Path.{_≡_}
-use mathlib.Core.Bool.{Bool, _&&_}
+use mathlib.Core.Bool.{Bool, cond, _&&_}
 use mathlib.Core.List.{List, map}
 use mathlib.Core.Option.{Option, none, some}
 use Prim.Native.Nat.{ℕ}
@@ -8,7 +8,6 @@ use lib.IntN.{ℤ}
 use lib.Dec.{leb}
 use lib.ListN.{length, take, getElem?}
 use Rattle.reply.specs.Numbers.{beyond, absent}
-use Rattle.field.specs.Read.{pick}
 use Rattle.field.specs.Field.{betweenZ}
 use Rattle.envelope.specs.declared.Node.{Node}
 use Rattle.envelope.specs.declared.Made.{Made}
@@ -45,7 +44,7 @@ fieldsKept k K l n =
     betweenZ lowerLeast lowerMost k && (betweenZ upperLeast upperMost K && (leb l lMost && (leb 1 n && leb n l)))
 
 unfoldable pub declaredWorth : ℤ → ℤ → ℕ → ℕ → Worth
-declaredWorth k K l n = pick (fieldsKept k K l n) (worthOf (declaredOf k K l n)) (fault beyond)
+declaredWorth k K l n = cond (fieldsKept k K l n) (worthOf (declaredOf k K l n)) (fault beyond)
 
 -- an expression's worth, from those of the words and of the earlier clocks
 unfoldable pub evaluate : List Node → List Node → Expr → Worth

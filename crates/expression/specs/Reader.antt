@@ -2,7 +2,7 @@
 use mathlib.Core.List.{List}
 use Prim.Native.Nat.{ℕ}
 use Rattle.field.specs.Read.{Read, Read.got, Read.refused}
-use Rattle.field.specs.Format.{run}
+use Rattle.field.specs.Run.{run}
 use Rattle.envelope.specs.declared.Node.{Node}
 use Rattle.expression.specs.declared.Value.{Value}
 use Rattle.expression.specs.Format.{Valued, expression}

@@ -12,7 +12,7 @@ use Rattle.field.specs.Spelling.{bytesOf, limit, AllBytes, Bytes, Bytes.
 use Rattle.field.specs.Field.{lowFirst, fieldAt, fieldIn, fieldOf}
 use Rattle.field.specs.declared.Cursor.{Cursor}
 use Rattle.field.specs.declared.Field.{Field}
-use Rattle.field.proofs.Read.{through, pick-left}
+use Rattle.field.proofs.Read.{through, cond-left}
 use Rattle.field.proofs.Spelling.{end, one-byte, limit-more, limit-most, limit1}
 
 -- ---- the number that bytes spell
@@ -88,7 +88,7 @@ module _ (w : ℕ) (s : List ℕ) (a : ℕ) where
   pub field-is : (v c : ℕ) → fieldAt w s a ≡ got v c → (lowFirst w s a ≡ v) × (a + w ≡ c) × (a + w ≤ length s)
   unfolding fieldAt
   field-is v c h =
-      let r = pick-left (leb (a + w) (length s)) (got (lowFirst w s a) (a + w)) missing a v c h in
+      let r = cond-left (leb (a + w) (length s)) (got (lowFirst w s a) (a + w)) missing a v c h in
       (cc (r .1), cc (r .1), leb-true (a + w) (length s) (r .0))
 
 -- what is read is what is spelled there
@@ -111,8 +111,8 @@ pub fieldIn-passed : (w low high n : ℕ) (s : List ℕ) (a v c : ℕ) → field
 unfolding fieldIn
 fieldIn-passed w low high n s a v c h =
     let r = through (fieldAt w s a) _ v c h in
-    let p = pick-left (leb low (r .0)) _ n a v c (r .3) in
-    let q = pick-left (ltb (r .0) high) (got (r .0) (r .1)) n a v c (p .1) in
+    let p = cond-left (leb low (r .0)) _ n a v c (r .3) in
+    let q = cond-left (ltb (r .0) high) (got (r .0) (r .1)) n a v c (p .1) in
     let e : r .0 ≡ v = cc (q .1) in
     (omega (arith, leb-true low (r .0) (p .0)), omega (arith, ltb-true (r .0) high (q .0)), r .2 ∙ q .1)
 

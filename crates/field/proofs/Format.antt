@@ -1,7 +1,7 @@
 -- Laws of formats, each proved once for every format: a format's reader gives exactly the piece that stands there or the refusal of the table; what
 -- follows a fault changes nothing; a refusal lies within the text; and a text cut short is refused at the field that is cut. Assumes nothing.
 use mathlib.Core.Path.{_≡_, refl, sym, ap, _∙_, subst}
-use mathlib.Core.Bool.{Bool, true, false}
+use mathlib.Core.Bool.{Bool, true, false, cond}
 use mathlib.Core.Logic.{_⊎_, inl, inr, _≢_}
 use mathlib.Core.List.{List, [], _∷_, _++_}
 use Prim.Native.Nat.{ℕ, zero, suc, _+_, _≤_, _<_}
@@ -11,9 +11,10 @@ use lib.Dec.{leb, ltb}
 use lib.ListN.{length, getD, length-append}
 use borrow.Author.Tests.{leb-true, leb-false}
 use Rattle.reply.specs.Numbers.{missing, beyond}
-use Rattle.field.specs.Read.{Read, Read.got, Read.refused, bind, pick}
+use Rattle.field.specs.Read.{Read, Read.got, Read.refused, bind}
 use Rattle.field.specs.Field.{lowFirst, fieldAt, fieldIn, signed, signedAt, betweenZ, signedIn}
-use Rattle.field.specs.Format.{Judged, Judged.passes, Judged.fails, Format, Format.known, Format.field, Format.then, Format.tested, Piece, Fault, ranged, signedRanged, settled, run}
+use Rattle.field.specs.Format.{Judged, Judged.passes, Judged.fails, Format, Format.known, Format.field, Format.then, Format.tested, Piece, Fault, ranged, signedRanged}
+use Rattle.field.specs.Run.{settled, run}
 use Rattle.field.proofs.Fields.{field-short, field-whole}
 
 abbrev Said : {A : Type 0} → List ℕ → Format A → ℕ → Read A → Type 0
@@ -26,7 +27,7 @@ module _ (s : List ℕ) where
   unfolding fieldAt
   said-field w a = go (leb (a + w) (length s)) refl
     where
-      go : (b : Bool) → leb (a + w) (length s) ≡ b → Said s (field w) a (pick b (got (lowFirst w s a) (a + w)) (refused missing a))
+      go : (b : Bool) → leb (a + w) (length s) ≡ b → Said s (field w) a (cond b (got (lowFirst w s a) (a + w)) (refused missing a))
       go true e = (leb-true (a + w) (length s) e, refl, refl)
       go false e = (leb-false (a + w) (length s) e, refl, refl)
 
@@ -117,15 +118,15 @@ fault-gives s P one (then t next) a number p g (inr h) = fault-gives s P one (ne
 fault-gives s P one (tested t test) a number p g (inl h) = fault-gives s P one t a number p (g .0) h
 fault-gives s P one (tested t test) a number p g (inr h) = rw (h .3) at (g .1 (h .0))
 
-pub fails-pick : {A : Type 0} (P : ℕ → Type 0) (t : Bool) (j : Judged A) (number : ℕ) → Fails P j → P number → Fails P (pick t j (fails number))
-fails-pick P true j number h k = h
-fails-pick P false j number h k = k
+pub fails-cond : {A : Type 0} (P : ℕ → Type 0) (t : Bool) (j : Judged A) (number : ℕ) → Fails P j → P number → Fails P (cond t j (fails number))
+fails-cond P true j number h k = h
+fails-cond P false j number h k = k
 
 pub gives-ranged : (P : ℕ → Type 0) (w low high number : ℕ) → P number → Gives P (ranged w low high number)
-gives-ranged P w low high number h = (tt, λ v. fails-pick P (leb low v) _ number (fails-pick P (ltb v high) (passes v) number tt h) h)
+gives-ranged P w low high number h = (tt, λ v. fails-cond P (leb low v) _ number (fails-cond P (ltb v high) (passes v) number tt h) h)
 
 pub gives-signed : (P : ℕ → Type 0) (low high : ℤ) → P beyond → Gives P (signedRanged low high)
-gives-signed P low high h = (tt, λ v. fails-pick P (betweenZ low high (signed v)) (passes (signed v)) beyond tt h)
+gives-signed P low high h = (tt, λ v. fails-cond P (betweenZ low high (signed v)) (passes (signed v)) beyond tt h)
 
 -- ---- a text that goes on, and one that is cut short
 getD-append : (s t : List ℕ) (i : ℕ) → i < length s → getD (s ++ t) i 0 ≡ getD s i 0
@@ -195,18 +196,18 @@ pub bind-assoc : {A B C : Type 0} (r : Read A) (f : A → ℕ → Read B) (g : B
 bind-assoc (got x c) f g = refl
 bind-assoc (refused number p) f g = refl
 
-pub settled-pick : {A : Type 0} (t : Bool) (j : Judged A) (fault c a : ℕ) → settled (pick t j (fails fault)) c a ≡ pick t (settled j c a) (refused fault a)
-settled-pick true j fault c a = refl
-settled-pick false j fault c a = refl
+pub settled-cond : {A : Type 0} (t : Bool) (j : Judged A) (fault c a : ℕ) → settled (cond t j (fails fault)) c a ≡ cond t (settled j c a) (refused fault a)
+settled-cond true j fault c a = refl
+settled-cond false j fault c a = refl
 
 pub ranged-run : (w low high fault : ℕ) (s : List ℕ) (a : ℕ) → run (ranged w low high fault) s a ≡ fieldIn w low high fault s a
 unfolding run fieldIn
 ranged-run w low high fault s a =
     bind-same (fieldAt w s a) (fieldAt w s a) _ _ refl λ v c.
-    settled-pick (leb low v) _ fault c a ∙ ap (λ (r : Read ℕ). pick (leb low v) r (refused fault a)) (settled-pick (ltb v high) (passes v) fault c a)
+    settled-cond (leb low v) _ fault c a ∙ ap (λ (r : Read ℕ). cond (leb low v) r (refused fault a)) (settled-cond (ltb v high) (passes v) fault c a)
 
 pub signed-run : (low high : ℤ) (s : List ℕ) (a : ℕ) → run (signedRanged low high) s a ≡ signedIn low high s a
 unfolding run signedIn signedAt
 signed-run low high s a =
-    bind-same (fieldAt 4 s a) (fieldAt 4 s a) _ _ refl (λ v c. settled-pick (betweenZ low high (signed v)) (passes (signed v)) beyond c a)
-    ∙ sym (bind-assoc (fieldAt 4 s a) (λ v c. got (signed v) c) λ z c. pick (betweenZ low high z) (got z c) (refused beyond a))
+    bind-same (fieldAt 4 s a) (fieldAt 4 s a) _ _ refl (λ v c. settled-cond (betweenZ low high (signed v)) (passes (signed v)) beyond c a)
+    ∙ sym (bind-assoc (fieldAt 4 s a) (λ v c. got (signed v) c) λ z c. cond (betweenZ low high z) (got z c) (refused beyond a))

@@ -1,9 +1,9 @@
 -- Laws of readings: what a chain of steps that ends well went through. Assumes nothing.
 use mathlib.Core.Path.{_≡_, refl}
-use mathlib.Core.Bool.{Bool, true, false}
+use mathlib.Core.Bool.{Bool, true, false, cond}
 use Prim.Native.Nat.{ℕ}
 use native.Mathlib.Omega.{arith}
-use Rattle.field.specs.Read.{Read, Read.got, Read.refused, bind, pick}
+use Rattle.field.specs.Read.{Read, Read.got, Read.refused, bind}
 
 -- a refusal is no piece
 pub refused-got : {A B : Type 0} {n p c : ℕ} {x : A} → _≡_ {A = Read A} (refused n p) (got x c) → B
@@ -15,9 +15,9 @@ through (got x d) go y c h = (x, d, refl, h)
 through (refused n p) go y c h = refused-got h
 
 -- a test that was passed
-pub pick-left : {A : Type 0} (t : Bool) (x : Read A) (n p : ℕ) (y : A) (c : ℕ) → pick t x (refused n p) ≡ got y c → (t ≡ true) × (x ≡ got y c)
-pick-left true x n p y c h = (refl, h)
-pick-left false x n p y c h = refused-got h
+pub cond-left : {A : Type 0} (t : Bool) (x : Read A) (n p : ℕ) (y : A) (c : ℕ) → cond t x (refused n p) ≡ got y c → (t ≡ true) × (x ≡ got y c)
+cond-left true x n p y c h = (refl, h)
+cond-left false x n p y c h = refused-got h
 
 -- what holds of a refusal's number and place holds of those of the same refusal
 pub same-refused : {A : Type 0} (P : ℕ → ℕ → Type 0) {n q number place : ℕ} → _≡_ {A = Read A} (refused n q) (refused number place) → P n q → P number place

@@ -1,6 +1,6 @@
 -- Laws of signed fields: two's complement both ways, and what is read is what is spelled there. Assumes nothing.
 use mathlib.Core.Path.{_≡_, refl, sym, ap, ap₂, _∙_}
-use mathlib.Core.Bool.{Bool, true, false}
+use mathlib.Core.Bool.{Bool, true, false, cond}
 use mathlib.Core.List.{List}
 use Prim.Native.Nat.{ℕ, zero, suc, _+_, _-_, _≤_, _<_}
 use native.Mathlib.Omega.{arith}
@@ -14,10 +14,10 @@ use mir.ValLaws.{toZ-ofZ}
 use borrow.Author.Tests.{lt-ltb, le-ltb, ltb-true, ltb-false}
 use Rattle.reply.specs.Numbers.{missing, beyond}
 use Rattle.whole.proofs.Bridge.{orders, signed as signs}
-use Rattle.field.specs.Read.{Read.got, Read.refused, pick}
+use Rattle.field.specs.Read.{Read.got, Read.refused}
 use Rattle.field.specs.Spelling.{bytesOf, limit, twos, Small, AllBytes, Bytes}
 use Rattle.field.specs.Field.{lowFirst, fieldAt, signed, signedAt, betweenZ, signedIn}
-use Rattle.field.proofs.Read.{through, pick-left}
+use Rattle.field.proofs.Read.{through, cond-left}
 use Rattle.field.proofs.Spelling.{limit4}
 use Rattle.field.proofs.Fields.{same-field, field-short, field-whole, field-bytes, field-got}
 
@@ -104,7 +104,7 @@ same-signed z y h k p q =
 pub betweenZ-true : (low high z : ℤ) → betweenZ low high z ≡ true → (low ≤ℤ z) × (z ≤ℤ high)
 betweenZ-true low high z h = go (ltZ z low) (ltZ high z) refl refl h
   where
-    go : (x y : Bool) → ltZ z low ≡ x → ltZ high z ≡ y → pick x false (pick y false true) ≡ true → (low ≤ℤ z) × (z ≤ℤ high)
+    go : (x y : Bool) → ltZ z low ≡ x → ltZ high z ≡ y → cond x false (cond y false true) ≡ true → (low ≤ℤ z) × (z ≤ℤ high)
     go true y e f h = let w : _≡_ {A = ℕ} 0 1 = cc in absurd (omega arith)
     go false true e f h = let w : _≡_ {A = ℕ} 0 1 = cc in absurd (omega arith)
     go false false e f h = (omega (arith, signs), omega (arith, signs))
@@ -112,7 +112,7 @@ betweenZ-true low high z h = go (ltZ z low) (ltZ high z) refl refl h
 pub betweenZ-holds : (low high z : ℤ) → low ≤ℤ z → z ≤ℤ high → betweenZ low high z ≡ true
 betweenZ-holds low high z p q = go (ltZ z low) (ltZ high z) refl refl
   where
-    go : (x y : Bool) → ltZ z low ≡ x → ltZ high z ≡ y → pick x false (pick y false true) ≡ true
+    go : (x y : Bool) → ltZ z low ≡ x → ltZ high z ≡ y → cond x false (cond y false true) ≡ true
     go true y e f = absurd (omega (arith, signs))
     go false true e f = absurd (omega (arith, signs))
     go false false e f = refl
@@ -122,7 +122,7 @@ pub signedIn-passed : (low high : ℤ) (s : List ℕ) (a : ℕ) (z : ℤ) (c : �
 unfolding signedIn
 signedIn-passed low high s a z c h =
     let r = through (signedAt s a) _ z c h in
-    let p = pick-left (betweenZ low high (r .0)) (got (r .0) (r .1)) beyond a z c (r .3) in
+    let p = cond-left (betweenZ low high (r .0)) (got (r .0) (r .1)) beyond a z c (r .3) in
     let e : r .0 ≡ z = cc (p .1) in
     let l = betweenZ-true low high (r .0) (p .0) in
     (rw e at (l .0), rw e at (l .1), r .2 ∙ p .1)

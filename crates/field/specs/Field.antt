@@ -1,5 +1,5 @@
 -- Fields: the number that stands at a place, or the refusal with its place.
-use mathlib.Core.Bool.{Bool, true, false}
+use mathlib.Core.Bool.{Bool, true, false, cond}
 use mathlib.Core.List.{List}
 use Prim.Native.Nat.{ℕ, zero, suc, _+_, _-_, _*_}
 use lib.IntN.{ℤ, pos, negsuc}
@@ -7,7 +7,7 @@ use lib.Signed.{ltZ}
 use lib.Dec.{leb, ltb}
 use lib.ListN.{length, getD}
 use Rattle.reply.specs.Numbers.{missing, beyond}
-use Rattle.field.specs.Read.{Read, Read.got, Read.refused, bind, pick}
+use Rattle.field.specs.Read.{Read, Read.got, Read.refused, bind}
 use Rattle.field.specs.declared.Field.{Field}
 use Rattle.field.specs.declared.Signed.{Signed}
 
@@ -18,16 +18,16 @@ lowFirst (suc w) s a = lowFirst w s (a + 1) * 256 + getD s a 0
 
 -- "fewer bytes remain than the field has": refused at its first byte
 unfoldable pub fieldAt : ℕ → List ℕ → ℕ → Read ℕ
-fieldAt w s a = pick (leb (a + w) (length s)) (got (lowFirst w s a) (a + w)) (refused missing a)
+fieldAt w s a = cond (leb (a + w) (length s)) (got (lowFirst w s a) (a + w)) (refused missing a)
 
 -- "A field is fetched (1), tested for its range or value (2, 3), then as a reference (5)": from low to below high, else that number at the field
 unfoldable pub fieldIn : ℕ → ℕ → ℕ → ℕ → List ℕ → ℕ → Read ℕ
 fieldIn w low high number s a =
-    bind (fieldAt w s a) λ v c. pick (leb low v) (pick (ltb v high) (got v c) (refused number a)) (refused number a)
+    bind (fieldAt w s a) λ v c. cond (leb low v) (cond (ltb v high) (got v c) (refused number a)) (refused number a)
 
 -- "signed in two's complement": the number that 32 bits stand for
 unfoldable pub signed : ℕ → ℤ
-signed v = pick (ltb v 2147483648) (pos v) (negsuc (4294967295 - v))
+signed v = cond (ltb v 2147483648) (pos v) (negsuc (4294967295 - v))
 
 -- "k i32, K i32": a signed field has four bytes
 unfoldable pub signedAt : List ℕ → ℕ → Read ℤ
@@ -35,11 +35,11 @@ signedAt s a = bind (fieldAt 4 s a) λ v c. got (signed v) c
 
 -- from low to high
 abbrev pub betweenZ : ℤ → ℤ → ℤ → Bool
-betweenZ low high z = pick (ltZ z low) false (pick (ltZ high z) false true)
+betweenZ low high z = cond (ltZ z low) false (cond (ltZ high z) false true)
 
 -- a k or K "beyond its limit" is refused at the field: a signed field from low to high
 unfoldable pub signedIn : ℤ → ℤ → List ℕ → ℕ → Read ℤ
-signedIn low high s a = bind (signedAt s a) λ z c. pick (betweenZ low high z) (got z c) (refused beyond a)
+signedIn low high s a = bind (signedAt s a) λ z c. cond (betweenZ low high z) (got z c) (refused beyond a)
 
 -- the code's answers, as readings: "a field plus the moved cursor or refusal and place"
 abbrev pub fieldOf : Field → Read ℕ

@@ -1,13 +1,13 @@
 -- What stands where in a text, and what refuses a text that doesn't keep to it: the table "Given exactly when / Place", without a reader.
 use mathlib.Core.Path.{_≡_}
+use mathlib.Core.Bool.{cond}
 use mathlib.Core.Logic.{_⊎_}
 use mathlib.Core.List.{List}
 use Prim.Native.Nat.{ℕ, _+_, _≤_, _<_}
 use lib.IntN.{ℤ}
 use lib.Dec.{leb, ltb}
 use lib.ListN.{length}
-use Rattle.field.specs.Read.{Read, Read.got, Read.refused, bind, pick}
-use Rattle.field.specs.Field.{lowFirst, fieldAt, signed, betweenZ}
+use Rattle.field.specs.Field.{lowFirst, signed, betweenZ}
 
 -- what a test says of a piece: what it stands for, or the number that refuses it
 pub data Judged (A : Type 0) : Type 0 where
@@ -38,25 +38,14 @@ Fault s (tested {A = A} t test) a number p = Fault s t a number p ⊎ ((x : A) �
 
 -- "beyond its limit", "not 0 or 1", "that isn't there": a number of w bytes from low to below high, else that number at the field
 abbrev pub from : ℕ → ℕ → ℕ → ℕ → Judged ℕ
-from low high number v = pick (leb low v) (pick (ltb v high) (passes v) (fails number)) (fails number)
+from low high number v = cond (leb low v) (cond (ltb v high) (passes v) (fails number)) (fails number)
 
 abbrev pub ranged : ℕ → ℕ → ℕ → ℕ → Format ℕ
 ranged w low high number = tested (field w) (from low high number)
 
 -- "k i32, K i32 .. signed in two's complement": from low to high; "k, K .. beyond its limit" is 2
 abbrev pub fromZ : ℤ → ℤ → ℕ → Judged ℤ
-fromZ low high v = pick (betweenZ low high (signed v)) (passes (signed v)) (fails 2)
+fromZ low high v = cond (betweenZ low high (signed v)) (passes (signed v)) (fails 2)
 
 abbrev pub signedRanged : ℤ → ℤ → Format ℤ
 signedRanged low high = tested (field 4) (fromZ low high)
-
--- the reader of a format
-abbrev pub settled : {A : Type 0} → Judged A → ℕ → ℕ → Read A
-settled (passes x) c a = got x c
-settled (fails number) c a = refused number a
-
-unfoldable pub run : {A : Type 0} → Format A → List ℕ → ℕ → Read A
-run (known x) s a = got x a
-run (field w) s a = fieldAt w s a
-run (then t next) s a = bind (run t s a) λ x c. run (next x) s c
-run (tested t test) s a = bind (run t s a) λ x c. settled (test x) c a

@@ -3,3 +3,4 @@ pub mod Spelling
 pub mod Field
 pub mod Promise
 pub mod Format
+pub mod Run

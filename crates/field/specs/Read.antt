@@ -16,8 +16,3 @@ bind (refused number place) next = refused number place
 abbrev pub mapped : {A B : Type 0} → (A → B) → Read A → Read B
 mapped f (got x place) = got (f x) place
 mapped f (refused number place) = refused number place
-
--- the first where the test holds, else the second
-abbrev pub pick : {A : Type 0} → Bool → A → A → A
-pick true x y = x
-pick false x y = y

@@ -10,7 +10,7 @@ use Rattle.envelope.specs.Made.{declaredOf, limited, negatedOf, joinedOf}
 use Rattle.envelope.specs.Inner.Tests.{isTaken}
 use Rattle.link.specs.Link.{sizeOf, earlyOf, verdictOf}
 use Rattle.expression.specs.Evaluate.{fieldsKept, declaredWorth}
-use Rattle.field.specs.Format.{run}
+use Rattle.field.specs.Run.{run}
 use Rattle.expression.specs.Format.{parts, expression}
 use Rattle.expression.specs.Reader.{exprAt}
 use Rattle.expression.specs.Table.{flats}
@@ -20,8 +20,7 @@ use Rattle.sheet.specs.WorkOut.{workedOf, flatRows}
 use Rattle.sheet.specs.Figures.{nots}
 use Rattle.pattern.specs.Step.{low, high, oneMay, zeroMay}
 use Rattle.pattern.specs.Answer.{checkAnswer, firstAnswer, firstBytes, nextAnswer, nextBytes}
-use Rattle.pattern.specs.Walk.{walkFrom, walkOver}
-use Rattle.figures.specs.Figures.{figures, said}
+use Rattle.figures.specs.Figures.{walkFrom, walkOver, figures, said}
 
 pub as-said : figures ≡ said
 unfolding euclid gcdOf lowFirst fieldAt fieldIn signed signedAt signedIn ones resultOf normalOf notOf onOf onesIn wordBit offsets wordOf withinLimits hasRoom isTaken declaredOf limited negatedOf joinedOf sizeOf earlyOf verdictOf fieldsKept declaredWorth run expression parts exprAt flats rowsAt sectionAt bitsAt wordAt clockAt linkAt readFrom readSheet total openRoom wholeRoom workedOf flatRows nots low high oneMay zeroMay checkAnswer firstAnswer firstBytes nextAnswer nextBytes walkFrom walkOver

@@ -1,18 +1,36 @@
 -- "Figures to hold the work to. Starred ones are proved from the definitions, all together by one claim over one list."
 use mathlib.Core.List.{List, [], _∷_, _++_, map}
-use Prim.Native.Nat.{ℕ}
+use Prim.Native.Nat.{ℕ, zero, suc}
 use lib.IntN.{pos}
 use lib.ListN.{replicate}
 use Rattle.link.specs.Figures as links
 use Rattle.sheet.specs.Figures as sheets
-use Rattle.pattern.specs.Answer.{given}
-use Rattle.pattern.specs.Walk.{walkOver}
+use Rattle.envelope.specs.declared.Envelope.{Envelope}
+use Rattle.pattern.specs.declared.Answer.{Answer}
+use Rattle.pattern.specs.declared.Answer.the-variants.{Inside, Done, Last, Refused}
+use Rattle.pattern.specs.Answer.{given, firstAnswer, firstBytes, nextAnswer, nextBytes}
 
 -- an envelope, a node or a verdict; a sheet worked out; the patterns of a walk
 pub data Figure : Type 0 where
   number : links.Figure → Figure
   sheet : sheets.Answer → Figure
   patterns : List (List ℕ) → Figure
+
+-- what follows an answer: ps where that is "done"
+abbrev pub afterDone : Answer → List (List ℕ) → List (List ℕ)
+afterDone Inside ps = []
+afterDone Done ps = ps
+afterDone Last ps = []
+afterDone (Refused n place) ps = []
+
+-- p, and what "next" writes from there on: at most `most` patterns
+unfoldable pub walkFrom : Envelope → ℕ → List ℕ → List (List ℕ)
+walkFrom e zero p = []
+walkFrom e (suc most) p = p ∷ afterDone (nextAnswer e p) (walkFrom e most (nextBytes e p))
+
+-- what "first" writes over the bytes p, and "next" from there on
+unfoldable pub walkOver : Envelope → ℕ → List ℕ → List (List ℕ)
+walkOver e most p = afterDone (firstAnswer e p) (walkFrom e most (firstBytes e p))
 
 -- at most `most` patterns of 2 3 2 1 at a length, whatever the slice held
 abbrev pub walk2321 : ℕ → ℕ → Figure

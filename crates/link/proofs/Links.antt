@@ -2,7 +2,7 @@
 -- or a read that is late.
 -- Assumes nothing.
 use mathlib.Core.Path.{_≡_, refl, sym, ap, _∙_, subst}
-use mathlib.Core.Bool.{Bool, true, false, cond}
+use mathlib.Core.Bool.{Bool, true, false, cond, _&&_}
 use Prim.Native.Nat.{ℕ, zero, suc, _+_, _-_, _*_, _≤_, _<_}
 use native.Mathlib.Nat.{mul-le-mul-left, mul-suc, mul-add, mul-comm, suc-mul, zero-mul, lt-of-not-le}
 use native.Mathlib.Decide.{decLe}
@@ -102,7 +102,7 @@ unfolding verdictOf
 accepted-is e f size h = go (eqb (e .l) (f .l)) (eqb (e .n) (f .n)) (earlyOf e f) refl refl refl h
   where
     go : (p q r : Bool) → eqb (e .l) (f .l) ≡ p → eqb (e .n) (f .n) ≡ q → earlyOf e f ≡ r
-        → cond p (cond q (cond r Early (Accepted (natAbs (sizeOf e f)))) Rates) Rates ≡ Accepted size → Passes e f × (size ≡ natAbs (sizeOf e f))
+        → cond (p && q) (cond r Early (Accepted (natAbs (sizeOf e f)))) Rates ≡ Accepted size → Passes e f × (size ≡ natAbs (sizeOf e f))
     go true true false x y z w = (record { same-l = eqb-true _ _ x; same-n = eqb-true _ _ y; in-time = early-not e f z }, cc)
     go true true true x y z w = let o : _≡_ {A = ℕ} 0 1 = cc in absurd (omega arith)
     go true false r x y z w = let o : _≡_ {A = ℕ} 0 1 = cc in absurd (omega arith)

@@ -1,6 +1,6 @@
 -- Links: the two tests, the size, and a link's row. "A link goes from producer 1 to consumer 2": here from e to f.
 use mathlib.Core.Path.{_≡_}
-use mathlib.Core.Bool.{Bool, cond}
+use mathlib.Core.Bool.{Bool, cond, _&&_}
 use Prim.Native.Nat.{ℕ, _-_}
 use lib.Dec.{eqb}
 use lib.IntN.{ℤ, pos, natAbs, _-ℤ_}
@@ -22,12 +22,7 @@ sizeOf e f = ceilDiv ((f .K -ℤ pos (e .n - 1)) -ℤ e .k) (e .l)
 -- "First test: l or n differs, verdict rates. Second: .. verdict early. Otherwise accepted, size .., which is never below 0."
 unfoldable pub verdictOf : Envelope → Envelope → Verdict
 verdictOf e f =
-    cond (eqb (e .l) (f .l))
-    (cond (eqb (e .n) (f .n))
-    (cond (earlyOf e f) Early
-    (Accepted (natAbs (sizeOf e f))))
-    Rates)
-    Rates
+    cond (eqb (e .l) (f .l) && eqb (e .n) (f .n)) (cond (earlyOf e f) Early (Accepted (natAbs (sizeOf e f)))) Rates
 
 -- neither test turns the link down
 pub record Passes (e f : Envelope) : Type 0 where

@@ -21,7 +21,7 @@ use Rattle.pattern.specs.declared.Answer.the-variants.{Refused}
 use Rattle.pattern.specs.Step.{oneMay, zeroMay}
 use Rattle.pattern.specs.Pattern.{longest, after, may, Inside, passed, plain}
 use Rattle.pattern.specs.Answer.{stepsOf, checkAnswer, firstAnswer, nextOf, doneOrLast, ifInside, nextAnswer}
-use Rattle.pattern.specs.Table.{Unfit, Fit, Refuses}
+use Rattle.pattern.specs.Table.{Unfit, Refuses}
 use Rattle.pattern.specs.Walk.{Refusals}
 use Rattle.pattern.proofs.Loops.{plain-before}
 use Rattle.pattern.proofs.Checks.{Checked, checked, Checked.is-inside, Checked.no-envelope, Checked.too-long, Checked.no-bit, Checked.forbidden, plain-stops, passed-take, passed-stops}
@@ -68,10 +68,10 @@ module _ (e : Envelope) (p : List ℕ) where
   listed number place _ (Checked.no-envelope f) r = same (Refuses e p) noEnvelope 0 number place r (Refuses.unfit (Unfit.no-envelope f))
   listed number place _ (Checked.too-long t h) r = same (Refuses e p) longPattern 0 number place r (Refuses.unfit (Unfit.too-long t h))
   listed number place _ (Checked.no-bit t k l) r =
-      same (Refuses e p) notABit (plain p) number place r (Refuses.no-bit (record { taken = t; short = k }) l (plain-stops p l) (plain-before p))
+      same (Refuses e p) notABit (plain p) number place r (Refuses.no-bit t k l (plain-stops p l) (plain-before p))
   listed number place _ (Checked.forbidden t k b l) r =
       same (Refuses e p) outside (stepsOf e p) number place r
-      (Refuses.forbidden (record { taken = t; short = k }) (λ i h. plain-before p i (omega arith)) l (passed-take (zeroMay e) (oneMay e) p 0 0) (passed-stops (zeroMay e) (oneMay e) p 0 0 l))
+      (Refuses.forbidden t k (λ i h. plain-before p i (omega arith)) l (passed-take (zeroMay e) (oneMay e) p 0 0) (passed-stops (zeroMay e) (oneMay e) p 0 0 l))
 
   untaken : {A : Type 0} (x y : A) → (Taken e → ⊥) → cond (isTaken e) x y ≡ y
   untaken x y f = go (isTaken e) refl
@@ -84,13 +84,13 @@ module _ (e : Envelope) (p : List ℕ) where
   unfolding checkAnswer
   given (Refuses.unfit (Unfit.no-envelope f)) = untaken _ _ f
   given (Refuses.unfit (Unfit.too-long t h)) = rw (taken-is e t, lt-ltb longest (length p) h)
-  given (Refuses.no-bit {place = place} fit lt over before) =
+  given (Refuses.no-bit {place = place} t short lt over before) =
       let is : plain p ≡ place = plain-is p place lt over before in
-      rw (taken-is e (fit .taken), le-ltb longest (length p) (fit .short), lt-ltb (plain p) (length p) (rw is lt), is)
-  given (Refuses.forbidden {place = place} fit bits lt ins out) =
+      rw (taken-is e t, le-ltb longest (length p) short, lt-ltb (plain p) (length p) (rw is lt), is)
+  given (Refuses.forbidden {place = place} t short bits lt ins out) =
       let all : plain p ≡ length p = all-plain p bits in
       let is : stepsOf e p ≡ place = passed-is (zeroMay e) (oneMay e) p 0 0 place lt ins out in
-      rw (taken-is e (fit .taken), le-ltb longest (length p) (fit .short), le-ltb (plain p) (length p) (omega arith), lt-ltb (stepsOf e p) (length p) (rw is lt), is)
+      rw (taken-is e t, le-ltb longest (length p) short, le-ltb (plain p) (length p) (omega arith), lt-ltb (stepsOf e p) (length p) (rw is lt), is)
 
   -- ---- first
   first-listed : (number place : ℕ) → firstAnswer e p ≡ Refused number place → Unfit e p number place

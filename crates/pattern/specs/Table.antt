@@ -18,15 +18,11 @@ pub data Unfit (e : Envelope) (p : List ℕ) : ℕ → ℕ → Type 0 where
   -- "pattern longer than 4,096": 0
   too-long : Taken e → 4_096 < length p → Unfit e p 13 0
 
-pub record Fit (e : Envelope) (p : List ℕ) : Type 0 where
-  pub taken : Taken e
-  pub short : length p ≤ 4_096
-
 -- 12 to 15: those of "check" and "next"
 pub data Refuses (e : Envelope) (p : List ℕ) : ℕ → ℕ → Type 0 where
   unfit : {number place : ℕ} → Unfit e p number place → Refuses e p number place
   -- "pattern byte not 0 or 1": "the first such"
-  no-bit : {place : ℕ} → Fit e p → place < length p → 1 < getD p place 0 → ((t : ℕ) → t < place → getD p t 0 ≤ 1) → Refuses e p 14 place
+  no-bit : {place : ℕ} → Taken e → length p ≤ 4_096 → place < length p → 1 < getD p place 0 → ((t : ℕ) → t < place → getD p t 0 ≤ 1) → Refuses e p 14 place
   -- "pattern outside the envelope": "first forbidden step"
-  forbidden : {place : ℕ} → Fit e p → ((t : ℕ) → t < length p → getD p t 0 ≤ 1) → place < length p
+  forbidden : {place : ℕ} → Taken e → length p ≤ 4_096 → ((t : ℕ) → t < length p → getD p t 0 ≤ 1) → place < length p
       → IsInside e (take place p) → (IsInside e (take (suc place) p) → ⊥) → Refuses e p 15 place

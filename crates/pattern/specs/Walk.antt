@@ -1,5 +1,5 @@
 -- What is promised of patterns, by the very answers and bytes of `check`, `first` and `next`.
-use Prim.Native.Nat.{ℕ, zero, suc, _≤_, _<_}
+use Prim.Native.Nat.{ℕ, _≤_, _<_}
 use mathlib.Core.Path.{_≡_}
 use mathlib.Core.Logic.{_↔_}
 use mathlib.Core.List.{List, [], _∷_}
@@ -53,22 +53,6 @@ pub record Refusals (e : Envelope) (p : List ℕ) : Type 0 where
   pub check : (number place : ℕ) → (checkAnswer e p ≡ Refused number place) ↔ Refuses e p number place
   pub first : (number place : ℕ) → (firstAnswer e p ≡ Refused number place) ↔ Unfit e p number place
   pub next : (number place : ℕ) → (nextAnswer e p ≡ Refused number place) ↔ Refuses e p number place
-
--- what follows an answer: ps where that is "done"
-abbrev pub afterDone : Answer → List (List ℕ) → List (List ℕ)
-afterDone Inside ps = []
-afterDone Done ps = ps
-afterDone Last ps = []
-afterDone (Refused number place) ps = []
-
--- p, and what "next" writes from there on: at most `most` patterns
-unfoldable pub walkFrom : Envelope → ℕ → List ℕ → List (List ℕ)
-walkFrom e zero p = []
-walkFrom e (suc most) p = p ∷ afterDone (nextAnswer e p) (walkFrom e most (nextBytes e p))
-
--- what "first" writes over the bytes p, and "next" from there on
-unfoldable pub walkOver : Envelope → ℕ → List ℕ → List (List ℕ)
-walkOver e most p = afterDone (firstAnswer e p) (walkFrom e most (firstBytes e p))
 
 -- the promises of this crate
 pub record Patterns : Type 0 where

@@ -1,7 +1,7 @@
 -- Closing from the bytes: each answer, the bytes after one close, and after many in any order. Assumes nothing.
 use mathlib.Core.Path.{_≡_, refl, sym, ap, _∙_, subst}
 use mathlib.Core.Logic.{_≢_}
-use mathlib.Core.Bool.{Bool, true, false, _||_}
+use mathlib.Core.Bool.{Bool, true, false, cond, _||_}
 use mathlib.Core.List.{List, [], _∷_}
 use mathlib.Core.Option.{Option, none, some}
 use Prim.Native.Nat.{ℕ, zero, suc, _+_, _≤_, _<_}
@@ -11,7 +11,7 @@ use lib.ListN.{length, set, getElem?, length-set}
 use lib.Seq.{getD-set-same, getD-set-other}
 use borrow.Author.Tests.{eqb-true, eqb-false, eq-eqb, ne-eqb}
 use Rattle.reply.specs.Numbers.{noClock, alreadyClosed}
-use Rattle.field.specs.Read.{Read, Read.got, Read.refused, pick}
+use Rattle.field.specs.Read.{Read, Read.got, Read.refused}
 use Rattle.field.specs.Spelling.{AllBytes, Bytes}
 use Rattle.field.proofs.Spelling.{end}
 use Rattle.expression.specs.Expression.{Clock, spellClock}
@@ -48,7 +48,7 @@ module _ (s : List ℕ) (i : ℕ) (o : Opened) (c : ℕ) (read : readSheet s ≡
   closing-absent e = rw (read, e)
 
   closing-there : (k : Clock) → getElem? (o .sheet .clocks) i ≡ some k
-      → closingOf s i ≡ pick (eqb (k .state) 1) (refused alreadyClosed 0) (got (clockPlace (o .sheet) i) (clockPlace (o .sheet) i + 1))
+      → closingOf s i ≡ cond (eqb (k .state) 1) (refused alreadyClosed 0) (got (clockPlace (o .sheet) i) (clockPlace (o .sheet) i + 1))
   unfolding closingOf locatedIn
   closing-there k e = rw (read, e)
 

@@ -1,13 +1,12 @@
 -- Expressions skipped node by node: what is left to skip after each node, and where clocks begin. Assumes nothing.
 use mathlib.Core.Path.{_≡_, refl, sym, ap, _∙_}
-use mathlib.Core.Bool.{Bool, true, false}
+use mathlib.Core.Bool.{Bool, true, false, cond}
 use mathlib.Core.List.{List, [], _∷_, _++_, append-assoc, append-nil}
 use Prim.Native.Nat.{ℕ, _+_, _-_, _≤_, _<_}
 use native.Mathlib.Numerals.{add-one}
 use native.Mathlib.Omega.{arith}
 use lib.Dec.{eqb}
 use lib.ListN.{length, getD, length-append}
-use Rattle.field.specs.Read.{pick}
 use Rattle.field.specs.Spelling.{bytesOf, twos, Bytes, Bytes.done, Bytes.byte}
 use Rattle.field.proofs.Spelling.{join, end, split, bytesOf-length}
 use Rattle.expression.specs.Expression.{Expr, spell}
@@ -62,7 +61,7 @@ module _ {s : List ℕ} where
 pub own-some : (tag : ℕ) → 0 < ownBytes tag
 own-some tag = go (eqb tag 2) (eqb tag 3) (eqb tag 4)
   where
-    go : (p q r : Bool) → 0 < pick p 17 (pick q 1 (pick r 1 3))
+    go : (p q r : Bool) → 0 < cond p 17 (cond q 1 (cond r 1 3))
     go true q r = omega arith
     go false true r = omega arith
     go false false true = omega arith

@@ -1,18 +1,19 @@
 -- Closing a clock: the byte that is turned, the reply, and the bytes at the end.
 use mathlib.Core.Path.{_≡_}
+use mathlib.Core.Bool.{cond}
 use mathlib.Core.List.{List}
 use Prim.Native.Nat.{ℕ, _+_}
 use lib.Dec.{eqb}
 use lib.ListN.{set}
 use Rattle.reply.specs.Numbers.{alreadyClosed}
-use Rattle.field.specs.Read.{Read, Read.got, Read.refused, bind, pick}
+use Rattle.field.specs.Read.{Read, Read.got, Read.refused, bind}
 use Rattle.sheet.specs.Locating.{locatedIn}
 use Rattle.register.specs.declared.Closing.{Closing}
 
 -- "Closing: 1 to 10, 16, 17": the place of the state byte that is to be turned
 unfoldable pub closingOf : List ℕ → ℕ → Read ℕ
 closingOf s i =
-    bind (locatedIn s i) λ k c. pick (eqb (k .clock .state) 1) (refused alreadyClosed 0) (got (k .place) (k .place + 1))
+    bind (locatedIn s i) λ k c. cond (eqb (k .clock .state) 1) (refused alreadyClosed 0) (got (k .place) (k .place + 1))
 
 -- the code's answer
 abbrev pub closingReply : Read ℕ → Closing

@@ -1,4 +1,5 @@
--- "Reply numbers": each refusal of document 01 by name, with what it is given for and its place.
+-- "Reply numbers": refusals of document 01 by name, with what each is given for and its place. 7, 8 and 9 are those of what a rule makes
+-- (envelope/specs/Made, `numberOf`).
 use Prim.Native.Nat.{ℕ}
 
 -- fewer bytes remain than the field has; at its first byte
@@ -24,18 +25,6 @@ absent = 5
 -- a node at depth 13; at its tag
 abbrev pub tooDeep : ℕ
 tooDeep = 6
-
--- a declared envelope, made normal, with K - k < n - 1; at its tag
-abbrev pub empty : ℕ
-empty = 7
-
--- not where l = n; at its tag
-abbrev pub fullRate : ℕ
-fullRate = 8
-
--- not or on gives l, k or K beyond the limits; at its tag
-abbrev pub outgrown : ℕ
-outgrown = 9
 
 -- bytes after the last link; at the first
 abbrev pub trailing : ℕ

@@ -1,6 +1,6 @@
 -- No listing is longer than `listingMost`: how long each line can be, and how many there are. Assumes nothing.
 use mathlib.Core.Path.{_≡_, refl}
-use mathlib.Core.Bool.{Bool, true, false}
+use mathlib.Core.Bool.{Bool, true, false, cond}
 use mathlib.Core.List.{List, [], _∷_, _++_, map}
 use Prim.Native.Nat.{ℕ, suc, _+_, _*_, _≤_, _<_}
 use native.Mathlib.Omega.{arith}
@@ -8,7 +8,7 @@ use lib.Dec.{eqb}
 use lib.IntN.{ℤ, pos, negsuc}
 use lib.ListN.{length, length-append}
 use Rattle.whole.proofs.Bridge.{up, down}
-use Rattle.field.specs.Read.{Read.got, pick}
+use Rattle.field.specs.Read.{Read.got}
 use Rattle.field.specs.Spelling.{AllBytes}
 use Rattle.envelope.specs.declared.Envelope.{Envelope}
 use Rattle.envelope.specs.declared.Node.{Node}
@@ -23,7 +23,7 @@ use Rattle.sheet.specs.Sheet.{Link, LinkRow, Each}
 use Rattle.sheet.specs.Reader.{readSheet}
 use Rattle.sheet.specs.Opened.{Opened}
 use Rattle.sheet.specs.Rooms.{rowOf, rowsOf, total, sizeOfRow}
-use Rattle.sheet.specs.Rooms.{stateOfClock}
+use Rattle.sheet.specs.Inner.Sections.{stateOfClock}
 use Rattle.sheet.proofs.LinkRows.{row-small, open-most}
 use Rattle.sheet.proofs.Promise.{served}
 use Rattle.sheet.proofs.Sheets.{sheet-reads}
@@ -46,7 +46,7 @@ upper-most (negsuc n) h k = absurd (omega arith)
 state-most : (state : ℕ) → length (stateWord state) ≤ 6
 state-most state = go (eqb state 1)
   where
-    go : (b : Bool) → length (pick b (letters "closed") (letters "open")) ≤ 6
+    go : (b : Bool) → length (cond b (letters "closed") (letters "open")) ≤ 6
     go true = omega arith
     go false = omega arith
 

@@ -8,7 +8,7 @@ use Rattle.envelope.specs.Word.{onesIn, wordBit, offsets, wordOf}
 use Rattle.envelope.specs.Made.{declaredOf, limited, negatedOf}
 use Rattle.link.specs.Link.{earlyOf, sizeOf, verdictOf}
 use Rattle.expression.specs.Evaluate.{fieldsKept, declaredWorth}
-use Rattle.field.specs.Format.{run}
+use Rattle.field.specs.Run.{run}
 use Rattle.expression.specs.Format.{parts, expression}
 use Rattle.expression.specs.Reader.{exprAt}
 use Rattle.sheet.specs.Reader.{rowsAt, sectionAt, bitsAt, wordAt, clockAt, linkAt, readFrom, readSheet}

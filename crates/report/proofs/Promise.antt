@@ -9,7 +9,7 @@ use lib.ListN.{length, length-map}
 use lib.Seq.{take-at}
 use Rattle.reply.specs.Numbers.{shortResult}
 use Rattle.field.specs.Read.{Read.got, Read.refused}
-use Rattle.field.proofs.Read.{through, pick-left}
+use Rattle.field.proofs.Read.{through, cond-left}
 use Rattle.link.specs.declared.Row.{Row}
 use Rattle.expression.specs.Table.{flats}
 use Rattle.expression.proofs.Tables.{flats-length}
@@ -36,8 +36,8 @@ module _ (s : List ℕ) where
   unfolding workedOf
   was-read A B o c h =
       let r = through (readSheet s) _ o c h in
-      let p = pick-left (leb (4 * length (r .0 .table)) A) _ shortResult 0 o c (r .3) in
-      let q = pick-left (leb (3 * length (r .0 .sheet .links)) B) _ shortResult 0 o c (p .1) in
+      let p = cond-left (leb (4 * length (r .0 .table)) A) _ shortResult 0 o c (r .3) in
+      let q = cond-left (leb (3 * length (r .0 .sheet .links)) B) _ shortResult 0 o c (p .1) in
       r .2 ∙ q .1
 
   shows : (clocks links : List ℤ) (o : Opened) (c : ℕ) → readSheet s ≡ got o c → Shows s o (got o c) clocks links

@@ -1,14 +1,14 @@
 -- Each refusal of listing is given exactly when the table says, at its place. Assumes nothing.
 use mathlib.Core.Path.{_≡_, refl, sym, ap, _∙_}
 use mathlib.Core.Logic.{_≢_, _↔_}
-use mathlib.Core.Bool.{Bool, true, false}
+use mathlib.Core.Bool.{Bool, true, false, cond}
 use mathlib.Core.List.{List}
 use Prim.Native.Nat.{ℕ}
 use lib.Dec.{leb}
 use lib.ListN.{length}
 use borrow.Author.Tests.{leb-false, lt-leb}
 use Rattle.reply.specs.Numbers.{shortResult}
-use Rattle.field.specs.Read.{Read, Read.got, Read.refused, pick}
+use Rattle.field.specs.Read.{Read, Read.got, Read.refused}
 use Rattle.sheet.specs.Reader.{readSheet}
 use Rattle.sheet.specs.Opened.{Opened}
 use Rattle.sheet.specs.Format.{Passed}
@@ -25,8 +25,8 @@ module _ (s : List ℕ) (room : ℕ) (number place : ℕ) where
       same : (m k : ℕ) → m ≡ number → k ≡ place → ListRefused s room m k → ListRefused s room number place
       same m k a b h = rw (← a, ← b) h
 
-      fits : (o : Opened) → Passed s o → (b : Bool) → leb (length (sheetText o)) room ≡ b → numberOf (pick b (Listed.Text (length (sheetText o))) (Listed.Refused 11 0)) ≡ number
-          → placeOf (pick b (Listed.Text (length (sheetText o))) (Listed.Refused 11 0)) ≡ place → ListRefused s room number place
+      fits : (o : Opened) → Passed s o → (b : Bool) → leb (length (sheetText o)) room ≡ b → numberOf (cond b (Listed.Text (length (sheetText o))) (Listed.Refused 11 0)) ≡ number
+          → placeOf (cond b (Listed.Text (length (sheetText o))) (Listed.Refused 11 0)) ≡ place → ListRefused s room number place
       fits o w true e p q = absurd (n (sym p))
       fits o w false e p q = same shortResult 0 p q (ListRefused.too-short o w (leb-false (length (sheetText o)) room e))
 

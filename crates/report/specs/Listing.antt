@@ -1,11 +1,12 @@
 -- "The listing program": the text of a sheet, field by field, and what `list` answers and writes.
 use mathlib.Core.Path.{_≡_}
+use mathlib.Core.Bool.{cond}
 use mathlib.Core.List.{List, [], _∷_, _++_, map}
 use Prim.Native.Nat.{ℕ, suc}
 use lib.Dec.{leb, eqb}
 use lib.ListN.{length}
 use lib.Seq.{sets}
-use Rattle.field.specs.Read.{Read, Read.got, Read.refused, pick}
+use Rattle.field.specs.Read.{Read, Read.got, Read.refused}
 use Rattle.envelope.specs.declared.Envelope.{Envelope}
 use Rattle.envelope.specs.declared.Node.{Node}
 use Rattle.link.specs.declared.Verdict.{Verdict}
@@ -13,16 +14,16 @@ use Rattle.link.specs.declared.Verdict.the-variants.{Accepted, Rates, Early}
 use Rattle.link.specs.declared.Row.{Row}
 use Rattle.link.specs.Link.{sizeIn, openSizeOf}
 use Rattle.sheet.specs.Reader.{readSheet}
+use Rattle.expression.specs.Expression.{Clock}
 use Rattle.sheet.specs.Opened.{Opened}
 use Rattle.sheet.specs.Rooms.{rowsOf, total, sizeOfRow}
-use Rattle.sheet.specs.Rooms.{stateOfClock}
 use Rattle.line.specs.Letters.{letters}
 use Rattle.line.specs.Text.{digits, decimal, lineOf, outcomeFields}
 use Rattle.report.specs.declared.Listed.{Listed}
 
 -- "open" or "closed"
 abbrev pub stateWord : ℕ → List ℕ
-stateWord state = pick (eqb state 1) (letters "closed") (letters "open")
+stateWord state = cond (eqb state 1) (letters "closed") (letters "open")
 
 abbrev pub verdictWord : Verdict → List ℕ
 verdictWord (Accepted size) = letters "accepted"
@@ -68,7 +69,7 @@ wholeText ss xs rs =
 
 -- the listing of a sheet that was read
 abbrev pub sheetText : Opened → List ℕ
-sheetText o = wholeText (map stateOfClock (o .sheet .clocks)) (o .table) (rowsOf o)
+sheetText o = wholeText (map (λ (c : Clock). c .state) (o .sheet .clocks)) (o .table) (rowsOf o)
 
 -- 128 clock lines of 56 bytes, 256 link lines of 44 and a room line of 31: no listing is longer
 abbrev pub listingMost : ℕ
@@ -84,11 +85,11 @@ listingOf s = textOf (readSheet s)
 
 -- the length of a text; "a lent result slice is too short" is 11, at 0
 abbrev pub fitted : List ℕ → ℕ → Listed
-fitted t room = pick (leb (length t) room) (Listed.Text (length t)) (Listed.Refused 11 0)
+fitted t room = cond (leb (length t) room) (Listed.Text (length t)) (Listed.Refused 11 0)
 
 -- the buffer at the end: the text and what stood past it, or all as it was
 abbrev pub over : List ℕ → List ℕ → List ℕ
-over t text = pick (leb (length t) (length text)) (sets text 0 t) text
+over t text = cond (leb (length t) (length text)) (sets text 0 t) text
 
 -- a refused sheet's number and place go straight back, and nothing is written
 abbrev pub listedIn : Read Opened → ℕ → Listed

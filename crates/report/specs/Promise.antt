@@ -10,7 +10,7 @@ use Rattle.expression.specs.Table.{flats}
 use Rattle.sheet.specs.Reader.{readSheet}
 use Rattle.sheet.specs.Opened.{Opened}
 use Rattle.sheet.specs.Rooms.{rowsOf, openRoom, wholeRoom}
-use Rattle.sheet.specs.Rooms.{stateOfClock}
+use Rattle.sheet.specs.Inner.Sections.{stateOfClock}
 use Rattle.sheet.specs.WorkOut.{workedOf, replyOf, flatRows, clocksOut, linksOut}
 use Rattle.line.specs.Text.{lineOf}
 use Rattle.line.specs.Letters.{letters}

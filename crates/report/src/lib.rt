@@ -215,7 +215,7 @@ fn list_whole(
     Listed::Text(need)
 }
 
-// The listing of any bytes.
+// The listing of any bytes, or their refusal.
 pub fn list(sheet: &[u8], text: &mut [u8]) -> Listed
     ensures { λ r. ⌜ ListsInto (now (sheet .entry)) (now (text .entry)) r (now (text .exit)) ⌝ }
 {

@@ -1,7 +1,7 @@
 -- Bits that are read one by one, with the 1s counted so far; and the bits of a word where they lie.
 -- Assumes nothing.
 use mathlib.Core.Path.{_≡_, refl, ap, _∙_}
-use mathlib.Core.Bool.{Bool}
+use mathlib.Core.Bool.{Bool, cond}
 use mathlib.Core.List.{List, [], _∷_, _++_}
 use Prim.Native.Nat.{ℕ, zero, suc, _+_, _-_, _≤_, _<_}
 use native.Mathlib.Numerals.{sub-one}
@@ -11,7 +11,7 @@ use lib.ListN.{length, take, drop, length-append}
 use lib.Seq.{take-at, drop-at}
 use borrow.Author.Tests.{le-leb}
 use Rattle.reply.specs.Numbers.{unknown, noOne}
-use Rattle.field.specs.Read.{Read, Read.got, Read.refused, bind, pick, mapped}
+use Rattle.field.specs.Read.{Read, Read.got, Read.refused, bind, mapped}
 use Rattle.field.specs.Spelling.{AllBytes}
 use Rattle.field.specs.Field.{fieldIn}
 use Rattle.field.proofs.Fields.{field-there}
@@ -100,7 +100,7 @@ ones-most (b ∷ bs) = omega (arith, bit (eqb b 1), ones-most bs)
     bit Bool.false = omega arith
 
 module _ (p q : ℕ) (s : List ℕ) (bytes : AllBytes s) (a c d : ℕ) (start : a ≤ length s) where
-  both : (u v : List ℕ) → bitsAt p s a ≡ got u c → bitsAt q s c ≡ got v d → wordBits p q s a ≡ pick (leb 1 (onesIn v)) (got (nodeOf (wordOf u v)) d) (refused noOne c)
+  both : (u v : List ℕ) → bitsAt p s a ≡ got u c → bitsAt q s c ≡ got v d → wordBits p q s a ≡ cond (leb 1 (onesIn v)) (got (nodeOf (wordOf u v)) d) (refused noOne c)
   unfolding wordBits
   both u v e f = rw (e, f)
 
@@ -120,8 +120,8 @@ module _ (p q : ℕ) (s : List ℕ) (bytes : AllBytes s) (a c d : ℕ) (start : 
         many = ap length xs ∙ omega (arith, length-append u v, b₁ .0, b₂ .0);
         ones = ap onesIn right ∙ t;
         most = omega (arith, ones-most v, t, b₂ .0);
-        is = λ z. rw (left, right, w) (ap (λ (x : Bool). pick x (got (nodeOf (wordOf u v)) d) (refused noOne c)) (ap (leb 1) t ∙ le-leb 1 m z));
-        without = λ z. w ∙ ap (λ (x : ℕ). pick (leb 1 x) (got (nodeOf (wordOf u v)) d) (refused noOne c)) (t ∙ z);
+        is = λ z. rw (left, right, w) (ap (λ (x : Bool). cond x (got (nodeOf (wordOf u v)) d) (refused noOne c)) (ap (leb 1) t ∙ le-leb 1 m z));
+        without = λ z. w ∙ ap (λ (x : ℕ). cond (leb 1 x) (got (nodeOf (wordOf u v)) d) (refused noOne c)) (t ∙ z);
       }
 
   pub lain : (m₁ m : ℕ) → mapped onesIn (bitsAt p s a) ≡ got m₁ c → mapped onesIn (bitsAt q s c) ≡ got m d → Lain p q s a c d m

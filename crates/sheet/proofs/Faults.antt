@@ -1,15 +1,15 @@
 -- Which refusals are given, and where. Assumes nothing.
 use mathlib.Core.Path.{_≡_, refl, sym, ap, ap₂, _∙_, subst}
-use mathlib.Core.Bool.{Bool, true, false}
+use mathlib.Core.Bool.{Bool, true, false, cond}
 use mathlib.Core.Logic.{_⊎_, inl, inr, _≢_}
 use mathlib.Core.List.{List, [], _∷_, _++_, map}
 use Prim.Native.Nat.{ℕ, suc, _+_, _-_, _*_, _≤_, _<_}
 use native.Mathlib.Omega.{arith}
 use lib.Dec.{leb}
 use lib.ListN.{length, length-map, length-append}
-use borrow.Author.Tests.{lt-leb, ne-eqb}
-use Rattle.reply.specs.Numbers.{missing, beyond, trailing, shortResult}
-use Rattle.field.specs.Read.{Read, Read.got, Read.refused, pick}
+use borrow.Author.Tests.{ne-eqb}
+use Rattle.reply.specs.Numbers.{missing, trailing}
+use Rattle.field.specs.Read.{Read, Read.got, Read.refused}
 use Rattle.field.specs.Spelling.{bytesOf, Bytes}
 use Rattle.field.specs.Format.{Fault}
 use Rattle.field.proofs.Spelling.{end, split, itself, bytesOf-length}
@@ -31,10 +31,6 @@ use Rattle.sheet.proofs.Sheets.{rows-map, spellRow, few-words, words-re
 use Rattle.sheet.proofs.Format.{short-enough, refused-listed, listed-refused, refused-within, refused-stays, cut-listed}
 
 module _ (s : List ℕ) where
-  pub too-long : bytesMost < length s → readSheet s ≡ refused beyond bytesMost
-  unfolding readSheet
-  too-long h = rw (lt-leb (length s) bytesMost h)
-
   pub within : (number place : ℕ) → readSheet s ≡ refused number place → place ≤ length s
   within number place h = refused-within s (refused-listed s number place h)
 

@@ -1,6 +1,6 @@
 -- The reader of a sheet is the reader of its format, so its refusals are those of the table, each with its place. Assumes nothing.
 use mathlib.Core.Path.{_≡_, refl, sym, _∙_, subst}
-use mathlib.Core.Bool.{Bool, true, false}
+use mathlib.Core.Bool.{Bool, true, false, cond}
 use mathlib.Core.Logic.{_⊎_, inl, inr, _≢_}
 use mathlib.Core.List.{List, [], _∷_, _++_, map}
 use Prim.Native.Nat.{ℕ, zero, suc, _+_, _≤_, _<_}
@@ -9,9 +9,10 @@ use lib.Dec.{leb, eqb}
 use lib.ListN.{length, length-append}
 use borrow.Author.Tests.{leb-true, leb-false, le-leb, lt-leb, eqb-true, eqb-false, eq-eqb, ne-eqb}
 use Rattle.reply.specs.Numbers.{missing, beyond, unknown, noOne, absent, trailing}
-use Rattle.field.specs.Read.{Read, Read.got, Read.refused, bind, pick}
-use Rattle.field.specs.Format.{settled, run, Judged.passes, Judged.fails, Format, Format.then, Format.field, Piece, Fault}
-use Rattle.field.proofs.Read.{refused-got, through, pick-left}
+use Rattle.field.specs.Read.{Read, Read.got, Read.refused, bind}
+use Rattle.field.specs.Format.{Judged.passes, Judged.fails, Format, Format.then, Format.field, Piece, Fault}
+use Rattle.field.specs.Run.{settled, run}
+use Rattle.field.proofs.Read.{refused-got, through, cond-left}
 use Rattle.field.proofs.Format.{read-piece, read-fault, piece-read, fault-read, piece-within, fault-within, piece-stays, fault-stays, Cut, bind-same, bind-assoc, ranged-run}
 use Rattle.field.proofs.Format as Format
 use Rattle.envelope.specs.declared.Node.{Node}
@@ -30,7 +31,7 @@ short-enough s h = rw (le-leb (length s) bytesMost h)
 
 -- what follows the links: nothing
 abbrev pub ended : List ℕ → Opened → ℕ → Read Opened
-ended s o c = pick (eqb c (length s)) (got o c) (refused trailing c)
+ended s o c = cond (eqb c (length s)) (got o c) (refused trailing c)
 
 module _ (s : List ℕ) where
   -- ---- each reader is that of a format
@@ -51,7 +52,7 @@ module _ (s : List ℕ) where
   bits-run (suc n) a = bind-same _ _ _ _ (ranged-run 1 0 2 unknown s a) λ b c. bind-same _ _ _ _ (bits-run n c) λ bs d. refl
 
   one-run : (t : Bool) (made : List ℕ → Word) (v : List ℕ) (c a : ℕ)
-      → (bind (settled (pick t (passes v) (fails noOne)) c a) λ v d. got (made v) d) ≡ pick t (got (made v) c) (refused noOne a)
+      → (bind (settled (cond t (passes v) (fails noOne)) c a) λ v d. got (made v) d) ≡ cond t (got (made v) c) (refused noOne a)
   one-run true made v c a = refl
   one-run false made v c a = refl
 
@@ -94,7 +95,7 @@ module _ (s : List ℕ) where
           let g : p ≡ place = cc in
           rw (← f, ← g) h
 
-      after : (o : Opened) (c : ℕ) → length s ≤ bytesMost → Piece s sheet 0 o c → (t : Bool) → eqb c (length s) ≡ t → pick t (got o c) (refused trailing c) ≡ refused number place → Refused s number place
+      after : (o : Opened) (c : ℕ) → length s ≤ bytesMost → Piece s sheet 0 o c → (t : Bool) → eqb c (length s) ≡ t → cond t (got o c) (refused trailing c) ≡ refused number place → Refused s number place
       after o c l k true e f = refused-got (sym f)
       after o c l k false e f = same trailing c f (bytes-after o l k (omega (arith, eqb-false c (length s) e, piece-within s sheet 0 o c (omega arith) k)))
 
@@ -102,7 +103,7 @@ module _ (s : List ℕ) where
       by (got o c) e l f = after o c l (read-piece s sheet 0 o c e) (eqb c (length s)) refl f
       by (refused n p) e l f = faulty l (read-fault s sheet 0 number place (e ∙ cc))
 
-      go : (t : Bool) → leb (length s) bytesMost ≡ t → pick t (readFrom 0 s) (refused beyond bytesMost) ≡ refused number place → Refused s number place
+      go : (t : Bool) → leb (length s) bytesMost ≡ t → cond t (readFrom 0 s) (refused beyond bytesMost) ≡ refused number place → Refused s number place
       go true e k = by (run sheet s 0) refl (leb-true (length s) bytesMost e) (sym (sheet-run 0) ∙ k)
       go false e k = same beyond bytesMost k (too-long (leb-false (length s) bytesMost e))
 
@@ -121,9 +122,9 @@ module _ (s : List ℕ) where
   accepted-right : (o : Opened) (c : ℕ) → readSheet s ≡ got o c → (length s ≤ bytesMost) × Piece s sheet 0 o c × (c ≡ length s)
   unfolding readSheet
   accepted-right o c h =
-      let t = pick-left (leb (length s) bytesMost) (readFrom 0 s) beyond bytesMost o c h in
+      let t = cond-left (leb (length s) bytesMost) (readFrom 0 s) beyond bytesMost o c h in
       let r = through (run sheet s 0) (ended s) o c (sym (sheet-run 0) ∙ t .1) in
-      let p = pick-left (eqb (r .1) (length s)) (got (r .0) (r .1)) trailing (r .1) o c (r .3) in
+      let p = cond-left (eqb (r .1) (length s)) (got (r .0) (r .1)) trailing (r .1) o c (r .3) in
       let e : r .1 ≡ c = cc in
       (leb-true (length s) bytesMost (t .0), read-piece s sheet 0 o c (r .2 ∙ p .1), sym e ∙ eqb-true (r .1) (length s) (p .0))
 

@@ -8,7 +8,7 @@ use borrow.Author.Tests.{leb-true}
 use Rattle.reply.specs.Numbers.{beyond, unknown, noOne, absent, trailing}
 use Rattle.field.specs.Read.{Read.refused}
 use Rattle.field.specs.Format.{Judged.passes, Format}
-use Rattle.field.proofs.Format.{Gives, fails-pick, gives-ranged, fault-gives}
+use Rattle.field.proofs.Format.{Gives, fails-cond, gives-ranged, fault-gives}
 use Rattle.envelope.specs.declared.Node.{Node}
 use Rattle.envelope.specs.Word.{bitsMost, onesIn}
 use Rattle.envelope.proofs.Tests.{both-true}
@@ -41,7 +41,7 @@ word-gives = (
   gives-ranged Listed 1 0 (bitsMost + 1) beyond refl,
   λ p. (
     gives-ranged Listed 1 1 (bitsMost + 1) beyond refl,
-    λ q. (bits-gives p, λ u. ((bits-gives q, λ v. fails-pick Listed (leb 1 (onesIn v)) (passes v) noOne tt refl), λ v. tt)),
+    λ q. (bits-gives p, λ u. ((bits-gives q, λ v. fails-cond Listed (leb 1 (onesIn v)) (passes v) noOne tt refl), λ v. tt)),
   ),
 )
 

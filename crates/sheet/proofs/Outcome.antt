@@ -28,7 +28,7 @@ use Rattle.sheet.specs.Opened.{Opened}
 use Rattle.sheet.specs.Rooms.{markOf, rowOf, rowsOf, total, openRoom, wholeRoom, sizeOfRow, verdictIn}
 use Rattle.sheet.specs.WorkOut.{workedOf, refusalOf, flatRows, WorksOut}
 use Rattle.sheet.specs.Inner.Sections.{foundOf, readingOf, Tabled, rowAt, rowsIn, linksFrom, roomsOf, rowsFrom, Ready}
-use Rattle.sheet.specs.Rooms.{stateOfClock}
+use Rattle.sheet.specs.Inner.Sections.{stateOfClock}
 use Rattle.sheet.proofs.Rows.{section-read}
 use Rattle.sheet.proofs.Links.{link-read}
 use Rattle.sheet.proofs.Sheets.{Opens, sheet-reads}

@@ -8,7 +8,7 @@ use lib.ListN.{length, take, getD, getElem?, length-append, length-map, length-t
 use Rattle.field.specs.Read.{Read.got}
 use Rattle.field.specs.Spelling.{bytesOf, Bytes, Bytes.done, Bytes.byte}
 use Rattle.field.specs.Field.{lowFirst}
-use Rattle.field.specs.Format.{Piece, run}
+use Rattle.field.specs.Format.{Piece}
 use Rattle.field.proofs.Format.{read-piece}
 use Rattle.field.proofs.Spelling.{join, end, split, itself, bytesOf-length}
 use Rattle.envelope.specs.declared.Node.{Node}

@@ -9,9 +9,8 @@ use Rattle.sheet.specs.Reader.{readSheet}
 use Rattle.sheet.specs.Promise.{Tie, Served, Refusals}
 use Rattle.sheet.proofs.Sheets.{Opens, sheet-reads, sheet-read, one-sheet}
 use Rattle.sheet.proofs.Served.{meant, link-serves}
-use Rattle.sheet.proofs.Format.{refused-listed, listed-refused, one-refusal, accepted-passed, passed-accepted}
-use Rattle.sheet.proofs.Table.{worked-listed, listed-worked, worked-passed, passed-worked}
-use Rattle.sheet.proofs.Faults.{too-long, within, first-fault, bytes-after, by-rules, cut-short}
+use Rattle.sheet.proofs.Format.{refused-listed, listed-refused, accepted-passed, passed-accepted}
+use Rattle.sheet.proofs.Faults.{within, first-fault, bytes-after, by-rules, cut-short}
 
 pub tie : (s : List ℕ) → AllBytes s → Tie s
 tie s bytes =
@@ -34,13 +33,9 @@ refusals s bytes =
     record {
       given = λ number place. (refused-listed s number place, listed-refused s);
       accepted = λ o c. (accepted-passed s o c, λ h. passed-accepted s o c (h .0) (h .1));
-      one = λ number number′ place place′. one-refusal s;
-      too-long = too-long s;
       bytes-after = bytes-after s;
       by-rules = by-rules s;
       cut-short = cut-short s;
       first-fault = first-fault s;
       within = within s;
-      worked-given = λ clocks links number place. (worked-listed s clocks links number place, listed-worked s clocks links);
-      worked-accepted = λ clocks links o c. (worked-passed s clocks links o c, passed-worked s clocks links o c);
     }

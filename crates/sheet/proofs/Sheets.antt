@@ -9,7 +9,7 @@ use borrow.Author.Tests.{leb-true, eqb-true, eq-eqb}
 use Rattle.reply.specs.Numbers.{beyond, trailing}
 use Rattle.field.specs.Read.{Read, Read.got, bind}
 use Rattle.field.specs.Spelling.{bytesOf, AllBytes, Bytes}
-use Rattle.field.proofs.Read.{through, pick-left}
+use Rattle.field.proofs.Read.{through, cond-left}
 use Rattle.field.proofs.Spelling.{join, end, split, whole-text, itself}
 use Rattle.envelope.specs.declared.Node.{Node}
 use Rattle.expression.specs.Expression.{Word, Clock, spellWord, spellClock}
@@ -54,7 +54,7 @@ module _ (s : List ℕ) (bytes : AllBytes s) where
       let r₂ = through (sectionAt (clockAt s ws) clocksMost s (r₁ .1)) _ o c (r₁ .3) in
       let n : ℕ = length (r₂ .0) in
       let r₃ = through (sectionAt (linkAt s n) linksMost s (r₂ .1)) _ o c (r₂ .3) in
-      let p = pick-left (eqb (r₃ .1) (length s)) _ trailing (r₃ .1) o c (r₃ .3) in
+      let p = cond-left (eqb (r₃ .1) (length s)) _ trailing (r₃ .1) o c (r₃ .3) in
       let v : Sheet = record { words = r₁ .0; clocks = map clockOf (r₂ .0); links = r₃ .0 } in
       let b₁ = section-reads s (λ xs a. wordAt s a) spellWord (λ xs w. WordRow w) bytes (λ xs a w c. word-reads s bytes a w c) wordsMost 0 (r₁ .0) (r₁ .1) (r₁ .2) in
       let b₂ = section-reads s (clockAt s ws) spellRow (ClockMade ws) bytes (λ xs a r c. clock-reads s bytes ws xs a r c) clocksMost (r₁ .1) (r₂ .0) (r₂ .1) (r₂ .2) in
@@ -79,7 +79,7 @@ module _ (s : List ℕ) (bytes : AllBytes s) where
   pub sheet-reads : (o : Opened) (c : ℕ) → readSheet s ≡ got o c → Opens s o c
   unfolding readSheet
   sheet-reads o c h =
-      let t = pick-left (leb (length s) bytesMost) _ beyond bytesMost o c h in
+      let t = cond-left (leb (length s) bytesMost) _ beyond bytesMost o c h in
       reads-from o c (leb-true (length s) bytesMost (t .0)) (t .1)
 
 -- ---- and what is spelled is read

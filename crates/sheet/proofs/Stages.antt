@@ -1,6 +1,7 @@
 -- A sheet that is read stage by stage: what its reading is, by what the code's readers of sections answered.
 -- Assumes nothing.
 use mathlib.Core.Path.{_≡_, refl, sym, ap, _∙_}
+use mathlib.Core.Bool.{cond}
 use mathlib.Core.List.{List, [], _∷_, map}
 use Prim.Native.Nat.{ℕ, _+_, _*_, _≤_, _<_}
 use native.Mathlib.Omega.{arith}
@@ -9,7 +10,7 @@ use lib.Dec.{eqb}
 use lib.ListN.{length, take, length-map}
 use borrow.Author.Tests.{lt-leb, eq-eqb, ne-eqb}
 use Rattle.reply.specs.Numbers.{beyond, trailing}
-use Rattle.field.specs.Read.{Read, Read.got, Read.refused, pick, mapped}
+use Rattle.field.specs.Read.{Read, Read.got, Read.refused, mapped}
 use Rattle.field.specs.Spelling.{AllBytes}
 use Rattle.field.specs.Field.{fieldIn, fieldOf}
 use Rattle.field.specs.declared.Cursor.{Cursor}
@@ -27,7 +28,7 @@ use Rattle.sheet.specs.Sheet.{Link, wordsMost, clocksMost, linksMost, by
 use Rattle.sheet.specs.Reader.{rowsAt, sectionAt, clockAt, linkAt, readFrom, readSheet}
 use Rattle.sheet.specs.Opened.{ClockNode, clockOf, nodeOfClock, Opened}
 use Rattle.sheet.specs.Inner.Sections.{WordRows, ClockRows, stateOfRow, readingOf, Tabled}
-use Rattle.sheet.specs.Rooms.{stateOfClock}
+use Rattle.sheet.specs.Inner.Sections.{stateOfClock}
 use Rattle.sheet.proofs.Rows.{section-reads}
 use Rattle.sheet.proofs.Words.{word-reads}
 use Rattle.sheet.proofs.Clocks.{ClockMade, clock-reads}
@@ -61,7 +62,7 @@ module _ (s : List ℕ) (short : length s ≤ bytesMost) where
       unfolding readFrom
       links-stop number place e = short-enough s short ∙ rw (words, clocks, e)
 
-      read-to-end : (ls : List Link) (d : ℕ) → sectionAt (linkAt s (length rows)) linksMost s c ≡ got ls d → readSheet s ≡ pick (eqb d (length s)) (got (opened ws rows ls) d) (refused trailing d)
+      read-to-end : (ls : List Link) (d : ℕ) → sectionAt (linkAt s (length rows)) linksMost s c ≡ got ls d → readSheet s ≡ cond (eqb d (length s)) (got (opened ws rows ls) d) (refused trailing d)
       unfolding readFrom
       read-to-end ls d e = short-enough s short ∙ rw (words, clocks, e)
 
@@ -163,7 +164,7 @@ module _ (s : List ℕ) (short : length s ≤ bytesMost) (f : Field) (list : Lis
                 links : (ls : List Link) × (sectionAt (linkAt s (length (clocks .rows))) linksMost s (c .at) ≡ got ls (d .at)) × (length ls ≡ n)
                 links = mapped-got length (sectionAt (linkAt s (length (clocks .rows))) linksMost s (c .at)) n (d .at) (links-told ∙ ap fieldOf q-is)
 
-                ends : readSheet s ≡ pick (eqb (d .at) (length s)) (got (opened (words .rows) (clocks .rows) (links .0)) (d .at)) (refused trailing (d .at))
+                ends : readSheet s ≡ cond (eqb (d .at) (length s)) (got (opened (words .rows) (clocks .rows) (links .0)) (d .at)) (refused trailing (d .at))
                 unfolding row
                 ends = read-to-end s short (words .rows) (a .at) (words .is) (clocks .rows) (c .at) (clocks .is) (links .0) (d .at) (links .1)
 

@@ -1,7 +1,7 @@
 -- The words section as the code reads it: a word by its bits, and the words' nodes in a table.
 -- Assumes nothing.
 use mathlib.Core.Path.{_≡_, refl, subst}
-use mathlib.Core.Bool.{Bool, true, false}
+use mathlib.Core.Bool.{Bool, true, false, cond}
 use mathlib.Core.List.{List, []}
 use Prim.Native.Nat.{ℕ, _+_, _*_, _<_}
 use lib.IntN.{ℤ}
@@ -9,7 +9,7 @@ use lib.Dec.{leb}
 use lib.ListN.{length}
 use lib.Seq.{sets}
 use Rattle.reply.specs.Numbers.{beyond, noOne}
-use Rattle.field.specs.Read.{Read, Read.got, Read.refused, bind, pick, mapped}
+use Rattle.field.specs.Read.{Read, Read.got, Read.refused, bind, mapped}
 use Rattle.field.specs.Spelling.{AllBytes}
 use Rattle.field.specs.Field.{fieldIn, fieldOf}
 use Rattle.field.specs.declared.Field.{Field}
@@ -34,12 +34,12 @@ unfolding wordAt wordBits
 word-is s a = lengths (fieldIn 1 0 65 beyond s a)
   where
     made : (u : List ℕ) (c : ℕ) (v : List ℕ) (d : ℕ) → Read Word
-    made u c v d = pick (leb 1 (onesIn v)) (got (record { prefix = u; period = v }) d) (refused noOne c)
+    made u c v d = cond (leb 1 (onesIn v)) (got (record { prefix = u; period = v }) d) (refused noOne c)
 
     node : (u : List ℕ) (c : ℕ) (v : List ℕ) (d : ℕ) → Read Node
-    node u c v d = pick (leb 1 (onesIn v)) (got (nodeOf (wordOf u v)) d) (refused noOne c)
+    node u c v d = cond (leb 1 (onesIn v)) (got (nodeOf (wordOf u v)) d) (refused noOne c)
 
-    tested : (u v : List ℕ) (c d : ℕ) (t : Bool) → mapped wordNode (pick t (got (record { prefix = u; period = v }) d) (refused noOne c)) ≡ pick t (got (nodeOf (wordOf u v)) d) (refused noOne c)
+    tested : (u v : List ℕ) (c d : ℕ) (t : Bool) → mapped wordNode (cond t (got (record { prefix = u; period = v }) d) (refused noOne c)) ≡ cond t (got (nodeOf (wordOf u v)) d) (refused noOne c)
     tested u v c d true = refl
     tested u v c d false = refl
 

@@ -10,7 +10,7 @@ use Rattle.reply.specs.Numbers.{beyond, unknown, noOne}
 use Rattle.field.specs.Read.{Read.got}
 use Rattle.field.specs.Spelling.{AllBytes, Bytes, Bytes.done}
 use Rattle.field.specs.Field.{fieldIn}
-use Rattle.field.proofs.Read.{through, pick-left}
+use Rattle.field.proofs.Read.{through, cond-left}
 use Rattle.field.proofs.Spelling.{join, end, split, first}
 use Rattle.field.proofs.Fields.{byteIn-bytes, byteIn-got}
 use Rattle.envelope.specs.Word.{onesIn, LegalWord}
@@ -46,7 +46,7 @@ word-reads s bytes a w c h =
     let r₂ = through (fieldIn 1 1 65 beyond s (r₁ .1)) _ w c (r₁ .3) in
     let r₃ = through (bitsAt (r₁ .0) s (r₂ .1)) _ w c (r₂ .3) in
     let r₄ = through (bitsAt (r₂ .0) s (r₃ .1)) _ w c (r₃ .3) in
-    let p = pick-left (leb 1 (onesIn (r₄ .0))) _ noOne (r₃ .1) w c (r₄ .3) in
+    let p = cond-left (leb 1 (onesIn (r₄ .0))) _ noOne (r₃ .1) w c (r₄ .3) in
     let b₁ = byteIn-bytes s bytes 0 65 beyond a (r₁ .0) (r₁ .1) (r₁ .2) in
     let b₂ = byteIn-bytes s bytes 1 65 beyond (r₁ .1) (r₂ .0) (r₂ .1) (r₂ .2) in
     let b₃ = bits-reads s bytes (r₁ .0) (r₂ .1) (r₃ .0) (r₃ .1) (end (b₂ .2) .1) (r₃ .2) in

@@ -1,10 +1,10 @@
 -- "The sheet, byte by byte", and "Reply numbers" 1 to 10: which refusal a text gives, and where, without a reader.
+use mathlib.Core.Bool.{cond}
 use mathlib.Core.Logic.{_⊎_}
 use mathlib.Core.List.{List, [], _∷_, _++_, map}
 use Prim.Native.Nat.{ℕ, zero, suc, _+_, _*_, _≤_, _<_}
 use lib.Dec.{leb}
 use lib.ListN.{length}
-use Rattle.field.specs.Read.{pick}
 use Rattle.field.specs.Format.{Judged, Judged.passes, Judged.fails, Format, Format.known, Format.field, Format.then, Format.tested, Piece, Fault, ranged}
 use Rattle.envelope.specs.declared.Node.{Node}
 use Rattle.envelope.specs.Word.{bitsMost, onesIn}
@@ -30,7 +30,7 @@ bits (suc n) = then (ranged 1 0 2 3) λ b. then (bits n) λ bs. known (b ∷ bs)
 
 -- "a period without a 1" is 4, at its first bit
 abbrev pub withOne : List ℕ → Judged (List ℕ)
-withOne v = pick (leb 1 (onesIn v)) (passes v) (fails 4)
+withOne v = cond (leb 1 (onesIn v)) (passes v) (fails 4)
 
 -- "prefix length u8 (0 to 64), period length u8 (1 to 64), prefix bits, period bits": "a .. length .. beyond its limit" is 2
 unfoldable pub wordRow : Format Word

@@ -5,7 +5,7 @@ use mathlib.Core.List.{List, _∷_, _++_}
 use mathlib.Core.Option.{some}
 use Prim.Native.Nat.{ℕ, _+_, _*_, _≤_, _<_}
 use lib.ListN.{length, getElem?}
-use Rattle.reply.specs.Numbers.{missing, beyond, trailing}
+use Rattle.reply.specs.Numbers.{missing, trailing}
 use Rattle.field.specs.Read.{Read.got, Read.refused}
 use Rattle.field.specs.Spelling.{bytesOf}
 use Rattle.field.specs.Format.{Fault}
@@ -22,9 +22,8 @@ use Rattle.expression.specs.Blame.{blame}
 use Rattle.sheet.specs.Sheet.{Link, Sheet, wordsMost, clocksMost, bytesMost, rows, section, spellSheet, Every, WordRow, ClockRow, Legal}
 use Rattle.sheet.specs.Reader.{readSheet}
 use Rattle.sheet.specs.Opened.{Opened}
-use Rattle.sheet.specs.Format.{sheet, Refused, Passed, WorkRefused}
+use Rattle.sheet.specs.Format.{sheet, Refused, Passed}
 use Rattle.sheet.specs.Rooms.{verdictIn}
-use Rattle.sheet.specs.WorkOut.{workedOf}
 
 -- bytes and values are tied
 pub record Tie (s : List ℕ) : Type 0 where
@@ -78,10 +77,6 @@ pub record Refusals (s : List ℕ) : Type 0 where
   pub given : (number place : ℕ) → (readSheet s ≡ refused number place) ↔ Refused s number place
   -- and the rest is accepted: what is right to its end
   pub accepted : (o : Opened) (c : ℕ) → (readSheet s ≡ got o c) ↔ (Passed s o × (c ≡ length s))
-  -- and the table gives one number at one place
-  pub one : (number number′ place place′ : ℕ) → Refused s number place → Refused s number′ place′ → (number ≡ number′) × (place ≡ place′)
-  -- "sheet too long": 32,768
-  pub too-long : bytesMost < length s → readSheet s ≡ refused beyond bytesMost
   -- "bytes after the last link": the first
   pub bytes-after : (v : Sheet) (xs : List Node) (x : ℕ) (rest : List ℕ) → Legal v → Worked (v .words) (v .clocks) xs → s ≡ spellSheet v ++ (x ∷ rest) → length s ≤ bytesMost
       → readSheet s ≡ refused trailing (length (spellSheet v))
@@ -97,7 +92,3 @@ pub record Refusals (s : List ℕ) : Type 0 where
       → readSheet (s ++ rest) ≡ refused number place
   -- a place is one of the text, or its end
   pub within : (number place : ℕ) → readSheet s ≡ refused number place → place ≤ length s
-  -- 1 to 11, and what is worked out: a sheet that passes, where both slices are long enough
-  pub worked-given : (clocks links number place : ℕ) → (workedOf s clocks links ≡ refused number place) ↔ WorkRefused s clocks links number place
-  pub worked-accepted : (clocks links : ℕ) (o : Opened) (c : ℕ)
-      → (workedOf s clocks links ≡ got o c) ↔ (Passed s o × (c ≡ length s) × (4 * length (o .table) ≤ clocks) × (3 * length (o .sheet .links) ≤ links))

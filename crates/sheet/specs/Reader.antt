@@ -1,10 +1,11 @@
 -- The reader of a sheet: its value with each clock's node, or the first refusal with its place.
+use mathlib.Core.Bool.{cond}
 use mathlib.Core.List.{List, [], _∷_, _++_, map}
 use Prim.Native.Nat.{ℕ, zero, suc, _+_}
 use lib.Dec.{leb, eqb}
 use lib.ListN.{length}
 use Rattle.reply.specs.Numbers.{beyond, unknown, noOne, absent, trailing}
-use Rattle.field.specs.Read.{Read, Read.got, Read.refused, bind, pick}
+use Rattle.field.specs.Read.{Read, Read.got, Read.refused, bind}
 use Rattle.field.specs.Field.{fieldIn}
 use Rattle.envelope.specs.declared.Node.{Node}
 use Rattle.envelope.specs.Word.{bitsMost, onesIn}
@@ -35,7 +36,7 @@ wordAt s a =
     bind (fieldIn 1 1 (bitsMost + 1) beyond s c₁) λ q c₂.
     bind (bitsAt p s c₂) λ u c₃.
     bind (bitsAt q s c₃) λ v c₄.
-    pick (leb 1 (onesIn v)) (got (record { prefix = u; period = v }) c₄) (refused noOne c₃)
+    cond (leb 1 (onesIn v)) (got (record { prefix = u; period = v }) c₄) (refused noOne c₃)
 
 -- "state u8 (0 open, 1 closed), then one expression"
 unfoldable pub clockAt : List ℕ → List Node → List ClockNode → ℕ → Read ClockNode
@@ -57,10 +58,10 @@ readFrom a s =
     bind (sectionAt (λ xs a. wordAt s a) wordsMost s a) λ ws b.
     bind (sectionAt (clockAt s (wordNodes ws)) clocksMost s b) λ rows c.
     bind (sectionAt (linkAt s (length rows)) linksMost s c) λ ls d.
-    pick (eqb d (length s))
+    cond (eqb d (length s))
     (got (record { sheet = record { words = ws; clocks = map clockOf rows; links = ls }; table = map nodeOfClock rows }) d)
     (refused trailing d)
 
 -- "Length is tested first. Then the sheet is read left to right and the first fault is given."
 unfoldable pub readSheet : List ℕ → Read Opened
-readSheet s = pick (leb (length s) bytesMost) (readFrom 0 s) (refused beyond bytesMost)
+readSheet s = cond (leb (length s) bytesMost) (readFrom 0 s) (refused beyond bytesMost)

@@ -52,6 +52,3 @@ sizeOfRow r = sizeIn (r .verdict)
 
 unfoldable pub wholeRoom : Opened → ℕ
 wholeRoom o = total (map sizeOfRow (rowsOf o))
-
-abbrev pub stateOfClock : Clock → ℕ
-stateOfClock c = c .state

@@ -1,12 +1,13 @@
 -- Working a sheet out: the reply, and what the two lent slices hold at the end.
 use mathlib.Core.Path.{_≡_}
+use mathlib.Core.Bool.{cond}
 use mathlib.Core.List.{List, [], _∷_, _++_}
 use Prim.Native.Nat.{ℕ, _*_}
 use lib.IntN.{ℤ, pos}
 use lib.Dec.{leb}
 use lib.ListN.{length, drop}
 use Rattle.reply.specs.Numbers.{shortResult}
-use Rattle.field.specs.Read.{Read, Read.got, Read.refused, bind, pick}
+use Rattle.field.specs.Read.{Read, Read.got, Read.refused, bind}
 use Rattle.link.specs.declared.Row.{Row}
 use Rattle.link.specs.Link.{numberOf, sizeIn}
 use Rattle.expression.specs.Table.{flats}
@@ -19,8 +20,8 @@ use Rattle.sheet.specs.Rooms.{rowsOf, openRoom, wholeRoom}
 unfoldable pub workedOf : List ℕ → ℕ → ℕ → Read Opened
 workedOf s clocks links =
     bind (readSheet s) λ o c.
-    pick (leb (4 * length (o .table)) clocks)
-    (pick (leb (3 * length (o .sheet .links)) links) (got o c) (refused shortResult 0))
+    cond (leb (4 * length (o .table)) clocks)
+    (cond (leb (3 * length (o .sheet .links)) links) (got o c) (refused shortResult 0))
     (refused shortResult 0)
 
 -- "A refusal returns number and place, every count and total 0"

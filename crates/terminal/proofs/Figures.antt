@@ -1,6 +1,6 @@
 -- A number read from its first figure on is the number that the whole text spells.
 use mathlib.Core.Path.{_≡_, refl}
-use mathlib.Core.Bool.{Bool, true, false}
+use mathlib.Core.Bool.{Bool, true, false, cond}
 use mathlib.Core.Logic.{_⊎_, inl, inr, ⊎-elim}
 use mathlib.Core.List.{List, [], _∷_}
 use Prim.Native.Nat.{ℕ, _+_, _-_, _*_, _^_, _≤_, _<_}
@@ -13,18 +13,18 @@ use native.Mathlib.Numerals.{add-one}
 use Rattle.line.specs.Text.{figure}
 use Rattle.line.specs.Promise.{readOn}
 use Rattle.terminal.specs.declared.number.Number.{Number}
-use Rattle.terminal.specs.Number.{pick, isFigure, allFigures, fitted, numeralOf, naturalOf, figureThen}
+use Rattle.terminal.specs.Number.{isFigure, allFigures, fitted, numeralOf, naturalOf, figureThen}
 
 -- ---- one figure
-pick-same : {A : Type 0} (t : Bool) (x : A) → pick t x x ≡ x
-pick-same true x = refl
-pick-same false x = refl
+cond-same : {A : Type 0} (t : Bool) (x : A) → cond t x x ≡ x
+cond-same true x = refl
+cond-same false x = refl
 
 pub below-figures : (b : ℕ) → b < figure 0 → isFigure b ≡ false
 below-figures b h = rw (lt-ltb b (figure 0) h)
 
 pub above-figures : (b : ℕ) → figure 9 < b → isFigure b ≡ false
-above-figures b h = rw (lt-leb b (figure 9) h) (pick-same (ltb b (figure 0)) false)
+above-figures b h = rw (lt-leb b (figure 9) h) (cond-same (ltb b (figure 0)) false)
 
 pub is-figure : (b : ℕ) → figure 0 ≤ b → b ≤ figure 9 → isFigure b ≡ true
 is-figure b h k = rw (le-ltb b (figure 0) h, le-leb b (figure 9) k)
@@ -63,34 +63,34 @@ unfolding readFrom
 from-none [] = refl
 from-none (b ∷ t) = from-none t
 
-from-large : (t : List ℕ) → readFrom Number.TooLarge t ≡ pick (allFigures t) Number.TooLarge Number.NotANumber
+from-large : (t : List ℕ) → readFrom Number.TooLarge t ≡ cond (allFigures t) Number.TooLarge Number.NotANumber
 unfolding readFrom allFigures
 from-large [] = refl
 from-large (b ∷ t) = step (isFigure b) (from-large t)
   where
-    step : (f : Bool) → readFrom Number.TooLarge t ≡ pick (allFigures t) Number.TooLarge Number.NotANumber
-        → readFrom (pick f Number.TooLarge Number.NotANumber) t ≡ pick (pick f (allFigures t) false) Number.TooLarge Number.NotANumber
+    step : (f : Bool) → readFrom Number.TooLarge t ≡ cond (allFigures t) Number.TooLarge Number.NotANumber
+        → readFrom (cond f Number.TooLarge Number.NotANumber) t ≡ cond (cond f (allFigures t) false) Number.TooLarge Number.NotANumber
     step true e = e
     step false e = from-none t
 
 -- where the number so far fits or has outgrown the word, the rest goes on from there
 further : (w : ℕ) (t : List ℕ)
-    → (w < 2 ^ 64 → readFrom (Number.Is w) t ≡ pick (allFigures t) (fitted (readOn w t)) Number.NotANumber)
-    → readFrom (fitted w) t ≡ pick (allFigures t) (fitted (readOn w t)) Number.NotANumber
+    → (w < 2 ^ 64 → readFrom (Number.Is w) t ≡ cond (allFigures t) (fitted (readOn w t)) Number.NotANumber)
+    → readFrom (fitted w) t ≡ cond (allFigures t) (fitted (readOn w t)) Number.NotANumber
 further w t rest = ⊎-elim
     (λ (h : w < 2 ^ 64). rw (← fits w h) (rest h))
     (λ (h : 2 ^ 64 ≤ w). rw (← outgrows w h, ← outgrows (readOn w t) (omega (arith, value-grows w t))) (from-large t))
     (split w (2 ^ 64))
 
-from-is : (v : ℕ) (t : List ℕ) → v < 2 ^ 64 → readFrom (Number.Is v) t ≡ pick (allFigures t) (fitted (readOn v t)) Number.NotANumber
+from-is : (v : ℕ) (t : List ℕ) → v < 2 ^ 64 → readFrom (Number.Is v) t ≡ cond (allFigures t) (fitted (readOn v t)) Number.NotANumber
 unfolding readFrom allFigures readOn
 from-is v [] h = fits v h
 from-is v (b ∷ t) h =
     let w = v * 10 + (b - figure 0) in
     onward w (isFigure b) (further w t (λ k. from-is w t k))
   where
-    onward : (w : ℕ) (f : Bool) → readFrom (fitted w) t ≡ pick (allFigures t) (fitted (readOn w t)) Number.NotANumber
-        → readFrom (pick f (fitted w) Number.NotANumber) t ≡ pick (pick f (allFigures t) false) (fitted (readOn w t)) Number.NotANumber
+    onward : (w : ℕ) (f : Bool) → readFrom (fitted w) t ≡ cond (allFigures t) (fitted (readOn w t)) Number.NotANumber
+        → readFrom (cond f (fitted w) Number.NotANumber) t ≡ cond (cond f (allFigures t) false) (fitted (readOn w t)) Number.NotANumber
     onward w true e = e
     onward w false e = from-none t
 

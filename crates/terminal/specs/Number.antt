@@ -1,5 +1,5 @@
 -- Numbers as they are typed: figures, zeros before them allowed, and a minus sign before a negative one.
-use mathlib.Core.Bool.{Bool, true, false}
+use mathlib.Core.Bool.{Bool, true, false, cond}
 use mathlib.Core.List.{List, [], _∷_}
 use Prim.Native.Nat.{ℕ, zero, suc, _+_, _-_, _*_, _^_}
 use lib.Dec.{leb, ltb, eqb}
@@ -9,27 +9,22 @@ use Rattle.line.specs.Promise.{valueOf}
 use Rattle.terminal.specs.declared.number.Number.{Number}
 use Rattle.terminal.specs.declared.number.SignedNumber.{SignedNumber}
 
--- the first where the test holds, else the second
-abbrev pub pick : {A : Type 0} → Bool → A → A → A
-pick true x y = x
-pick false x y = y
-
 -- "0" to "9"
 abbrev pub isFigure : ℕ → Bool
-isFigure b = pick (ltb b (figure 0)) false (leb b (figure 9))
+isFigure b = cond (ltb b (figure 0)) false (leb b (figure 9))
 
 -- every byte is a figure
 unfoldable pub allFigures : List ℕ → Bool
 allFigures [] = true
-allFigures (b ∷ t) = pick (isFigure b) (allFigures t) false
+allFigures (b ∷ t) = cond (isFigure b) (allFigures t) false
 
 -- a number, where it fits an unsigned word
 abbrev pub fitted : ℕ → Number
-fitted v = pick (ltb v (2 ^ 64)) (Number.Is v) Number.TooLarge
+fitted v = cond (ltb v (2 ^ 64)) (Number.Is v) Number.TooLarge
 
 -- the number that a text spells, where it is all figures
 abbrev pub numeralOf : List ℕ → Number
-numeralOf t = pick (allFigures t) (fitted (valueOf t)) Number.NotANumber
+numeralOf t = cond (allFigures t) (fitted (valueOf t)) Number.NotANumber
 
 -- an empty text spells none
 unfoldable pub naturalOf : List ℕ → Number
@@ -38,23 +33,23 @@ naturalOf (b ∷ t) = numeralOf (b ∷ t)
 
 -- the number with no sign, where it fits a signed word
 abbrev pub positive : Number → SignedNumber
-positive (Number.Is v) = pick (ltb v (2 ^ 63)) (SignedNumber.Is (pos v)) SignedNumber.TooLarge
+positive (Number.Is v) = cond (ltb v (2 ^ 63)) (SignedNumber.Is (pos v)) SignedNumber.TooLarge
 positive Number.NotANumber = SignedNumber.NotANumber
 positive Number.TooLarge = SignedNumber.TooLarge
 
 -- the number with a minus sign: the least is one further from 0 than the largest
 abbrev pub negative : Number → SignedNumber
 negative (Number.Is zero) = SignedNumber.Is (pos 0)
-negative (Number.Is (suc v)) = pick (ltb v (2 ^ 63)) (SignedNumber.Is (negsuc v)) SignedNumber.TooLarge
+negative (Number.Is (suc v)) = cond (ltb v (2 ^ 63)) (SignedNumber.Is (negsuc v)) SignedNumber.TooLarge
 negative Number.NotANumber = SignedNumber.NotANumber
 negative Number.TooLarge = SignedNumber.TooLarge
 
 unfoldable pub wholeOf : List ℕ → SignedNumber
 wholeOf [] = SignedNumber.NotANumber
-wholeOf (b ∷ t) = pick (eqb b minus) (negative (naturalOf t)) (positive (naturalOf (b ∷ t)))
+wholeOf (b ∷ t) = cond (eqb b minus) (negative (naturalOf t)) (positive (naturalOf (b ∷ t)))
 
 -- ---- the same from the front on: a number and the next byte
 abbrev pub figureThen : Number → ℕ → Number
-figureThen (Number.Is v) b = pick (isFigure b) (fitted (v * 10 + (b - figure 0))) Number.NotANumber
+figureThen (Number.Is v) b = cond (isFigure b) (fitted (v * 10 + (b - figure 0))) Number.NotANumber
 figureThen Number.NotANumber b = Number.NotANumber
-figureThen Number.TooLarge b = pick (isFigure b) Number.TooLarge Number.NotANumber
+figureThen Number.TooLarge b = cond (isFigure b) Number.TooLarge Number.NotANumber

@@ -1,12 +1,13 @@
 -- What the code's readers of sections answer, and what they leave in the tables that are lent to them: each by the one reader of Reader.antt.
 use mathlib.Core.Path.{_≡_}
+use mathlib.Core.Bool.{cond}
 use mathlib.Core.List.{List, [], map}
 use Prim.Native.Nat.{ℕ, _+_, _*_, _≤_}
 use lib.IntN.{ℤ}
 use lib.Dec.{leb}
 use lib.ListN.{length, getD, take}
 use Rattle.reply.specs.Numbers.{unknown, noOne}
-use Rattle.field.specs.Read.{Read, Read.got, Read.refused, bind, pick, mapped}
+use Rattle.field.specs.Read.{Read, Read.got, Read.refused, bind, mapped}
 use Rattle.field.specs.Field.{fieldIn, fieldOf}
 use Rattle.field.specs.declared.Field.{Field}
 use Rattle.envelope.specs.declared.Node.{Node}
@@ -29,14 +30,13 @@ use Rattle.sheet.specs.Reader.{rowsAt, sectionAt, bitsAt, wordAt, linkAt
 use Rattle.sheet.specs.Opened.{ClockNode, nodeOfClock, Opened}
 use Rattle.sheet.specs.Rooms.{verdictIn, total, sizeOfRow}
 use Rattle.sheet.specs.WorkOut.{flatRows}
-use Rattle.sheet.specs.Rooms.{stateOfClock}
 
 -- ---- words
 
 -- a word's bits, prefix and period, with the node that they make
 unfoldable pub wordBits : ℕ → ℕ → List ℕ → ℕ → Read Node
 wordBits p q s a =
-    bind (bitsAt p s a) λ u c. bind (bitsAt q s c) λ v d. pick (leb 1 (onesIn v)) (got (nodeOf (wordOf u v)) d) (refused noOne c)
+    bind (bitsAt p s a) λ u c. bind (bitsAt q s c) λ v d. cond (leb 1 (onesIn v)) (got (nodeOf (wordOf u v)) d) (refused noOne c)
 
 -- how many words, and their nodes in the table
 abbrev pub WordsLeft : Read (List Word) → Field → List ℤ → Type 0
@@ -98,6 +98,9 @@ foundOf o =
 abbrev pub readingOf : Read Opened → Reading
 readingOf (got o c) = Reading.Whole (foundOf o)
 readingOf (refused number place) = Reading.Refused number place
+
+abbrev pub stateOfClock : Clock → ℕ
+stateOfClock c = c .state
 
 abbrev pub Tabled : Read Opened → List ℤ → List ℕ → Type 0
 Tabled (got o c) t ss =
