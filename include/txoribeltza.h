@@ -85,6 +85,8 @@ enum {
     TXORI_CLOCKS_MOST = 128,
     TXORI_LINKS_MOST = 256,
     TXORI_PATTERN_MOST = 4096,
+    /* A listing's most bytes: a buffer of so many is never too short for txori_list. */
+    TXORI_LISTING_MOST = 18463,
 
     /* Numbers per clock: k, K, l, n. */
     TXORI_PER_CLOCK = 4,
@@ -145,8 +147,9 @@ TxoriWritten txori_quote(const uint8_t *sheet, size_t sheet_length, size_t clock
                          uint8_t *out, size_t out_length);
 
 /* Writes the listing of a sheet to the start of `text`, without a byte 0 at its end: a line for each clock and each
-   link, and the rooms. A refused sheet is listed too, as its refusal. Bytes past the text stay as found.
-   Refusal: 11 where `text` is too short; then nothing is written. */
+   link, and the rooms. Bytes past the text stay as found. A refused sheet has no listing: number and place are its
+   refusal's, however short `text` is, the length is 0 and nothing is written.
+   Refusals: 1 to 10; then 11 where `text` is too short for the listing. */
 TxoriWritten txori_list(const uint8_t *sheet, size_t sheet_length, uint8_t *text, size_t text_length);
 
 /* ---- Patterns: bytes 0 and 1 in the envelope k, K, l, n */

@@ -8,7 +8,7 @@
 /* Stands where nothing is written. */
 enum { LEFT = 77 };
 
-static uint8_t sheet[TXORI_SHEET_MOST], out[1024];
+static uint8_t sheet[TXORI_SHEET_MOST], out[TXORI_LISTING_MOST];
 static size_t length;
 
 static void print_bytes(const char *name, const uint8_t *bytes, size_t count)
@@ -61,7 +61,13 @@ static void sheets(void)
     TxoriWritten text = txori_list(sheet, length, out, sizeof out);
     print_written("list", text);
     fwrite(out, 1, text.length, stdout);
+    memset(out, 0xEE, sizeof out);
     print_written("list, too short", txori_list(sheet, length, out, text.length - 1));
+    print_written("list, a byte more", txori_list(sheet, length + 1, out, sizeof out));
+    print_written("list, a byte more, no room", txori_list(sheet, length + 1, out, 0));
+    print_bytes("text", out, 5);
+    print_written("list, just room", txori_list(sheet, length, out, text.length));
+    print_bytes("text's end", out + text.length - 2, 3);
     print_reply("close 1", txori_close(sheet, length, 1));
     print_reply("close 1", txori_close(sheet, length, 1));
     print_reply("close 3", txori_close(sheet, length, 3));

@@ -11,7 +11,7 @@
 enum { ROOM = 65536, PAINT = 0xA5, MOST = 16384 };
 
 static unsigned char stack[ROOM] __attribute__((aligned(64)));
-static uint8_t sheet[TXORI_SHEET_MOST], text[ROOM], pattern[TXORI_PATTERN_MOST];
+static uint8_t sheet[TXORI_SHEET_MOST], text[TXORI_LISTING_MOST], pattern[TXORI_PATTERN_MOST];
 static int64_t clocks[TXORI_PER_CLOCK * TXORI_CLOCKS_MOST], links[TXORI_PER_LINK * TXORI_LINKS_MOST];
 static size_t length;
 static uint64_t number;
@@ -86,8 +86,8 @@ static void put_links(int apart, int count)
 {
     put(TXORI_LINKS_MOST, 2);
     for (int i = 0; i < TXORI_LINKS_MOST; i++) {
-        put(apart ? i % count : 0, 2);
-        put(apart ? (i + 1) % count : 1, 2);
+        put(apart ? i % count : count - 2, 2);
+        put(apart ? (i + 1) % count : count - 1, 2);
     }
 }
 
@@ -102,25 +102,27 @@ static void make_deep(int last)
     put_links(1, TXORI_CLOCKS_MOST);
 }
 
-static void put_declared(int32_t k, int32_t K)
+static void put_declared(int32_t k, int32_t K, uint32_t l, uint32_t n)
 {
-    put(0, 1);
+    put(1, 1);
     put(2, 1);
     put((uint32_t)k, 4);
     put((uint32_t)K, 4);
-    put(1, 4);
-    put(1, 4);
+    put(l, 4);
+    put(n, 4);
 }
 
-/* The largest numbers to list. */
+/* The largest numbers to list, in the longest listing: 18,081 bytes. The last two clocks give the largest size. */
 static void make_wide(void)
 {
     length = 0;
     put_words(0);
-    put(2, 2);
-    put_declared(-1000000000, 0);
-    put_declared(0, 1000000000);
-    put_links(0, 2);
+    put(TXORI_CLOCKS_MOST, 2);
+    for (int i = 2; i < TXORI_CLOCKS_MOST; i++)
+        put_declared(-1000000000, 1000000000, 1000000, 999999);
+    put_declared(-1000000000, 1000000000, 1, 1);
+    put_declared(1000000000, 1000000000, 1, 1);
+    put_links(0, TXORI_CLOCKS_MOST);
 }
 
 /* ---- the calls */
@@ -210,7 +212,7 @@ int main(void)
     failed |= measure("txori_work_out, refused at depth 13", work_out, TXORI_TOO_DEEP);
     failed |= measure("txori_close, refused at depth 13", close_last, TXORI_TOO_DEEP);
     failed |= measure("txori_quote, refused at depth 13", quote_last, TXORI_TOO_DEEP);
-    failed |= measure("txori_list, refused at depth 13", list, TXORI_OK);
+    failed |= measure("txori_list, refused at depth 13", list, TXORI_TOO_DEEP);
     make_wide();
     failed |= measure("txori_list, largest numbers", list, TXORI_OK);
     failed |= measure("txori_first, 4,096 bytes", first, TXORI_OK);
