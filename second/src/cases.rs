@@ -2,7 +2,7 @@
 
 use crate::envelope::{gcd, EDGE_MAX, RATE_MAX};
 use crate::generate::{Maker, Scale};
-use crate::listing;
+use crate::listing::{self, LISTING_MAX};
 use crate::model::{marked, not, on, Expr, Field, Kind, Model, Rng, Written};
 use crate::protocol::{Case, BYTES_MAX, NUMBERS_MAX, TEXT_MAX};
 use crate::sheet::SHEET_MAX;
@@ -510,16 +510,19 @@ fn list(rng: &mut Rng) -> (Case, Option<Aim>) {
         sample.aim = aim("listed", 0, 0);
     }
     let mut text = vec![0; TEXT_MAX];
-    let length = listing::list(&sample.bytes, &mut text).expect("a text that fits");
+    let listed = listing::list(&sample.bytes, &mut text);
+    // about as much room as the line that the program prints of a refused sheet: it must not be written
+    let length = listed.unwrap_or_else(|refusal| listing::refusal_line(refusal).len());
     let room = match rng.below(20) {
         0..=8 => length,
         9..=11 => length - 1,
         12 => 0,
         13 => rng.below(length),
         14 if rng.chance(20) => TEXT_MAX,
+        14 => LISTING_MAX,
         _ => length + 1 + rng.below(300),
     };
-    if room < length {
+    if listed.is_ok() && room < length.min(LISTING_MAX) {
         sample.aim = aim("short: text", 11, 0);
     }
     let case = Case::List {

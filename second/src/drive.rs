@@ -1,7 +1,7 @@
 //! The driver: cases go to the batch command, every byte of its answers is compared.
 
 use crate::cases;
-use crate::protocol::{Case, LAST, NAMES};
+use crate::protocol::{reply, Case, LAST, NAMES};
 use crate::tally::Tally;
 use std::fs;
 use std::io::{self, Read, Write};
@@ -107,8 +107,8 @@ fn exchange(options: &Options, cases: &[Case]) -> io::Result<Exchange> {
 /// Where two answers differ, in words.
 fn difference(expected: &[u8], got: &[u8]) -> String {
     let head = |answer: &[u8]| {
-        let place = u64::from_le_bytes(answer[1..9].try_into().unwrap());
-        format!("{} at {place}", answer[0])
+        let (number, place) = reply(answer);
+        format!("{number} at {place}")
     };
     if expected[..9] != got[..9] {
         return format!("reply {}, not {}", head(got), head(expected));

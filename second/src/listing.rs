@@ -104,33 +104,26 @@ impl Sink for Lent<'_> {
 /// No line of a listing is longer.
 const LINE_MAX: usize = 64;
 
-/// Writes the listing and gives its length; 11 where the lent bytes are too few.
+/// No listing is longer.
+pub const LISTING_MAX: usize = 18_463;
+
+/// Writes the listing of a sheet that isn't refused and gives its length; 11 where the lent bytes are too few.
 pub fn list(sheet: &[u8], lent: &mut [u8]) -> Result<usize, Refusal> {
     let mut design = Design::new(sheet);
-    let refused = design.read().err();
+    design.read()?;
     if lent.len() < LINE_MAX * (design.clocks().len() + design.link_count() + 1) {
         let mut length = Length(0);
-        write_listing(&design, refused, &mut length);
+        text(&design, &mut length);
         if length.0 > lent.len() {
             return refuse(11, 0);
         }
     }
     let mut out = Lent { bytes: lent, at: 0 };
-    write_listing(&design, refused, &mut out);
+    text(&design, &mut out);
     Ok(out.at)
 }
 
-fn write_listing(design: &Design, refused: Option<Refusal>, out: &mut impl Sink) {
-    match refused {
-        None => text(design, out),
-        Some(refusal) => refusal_text(refusal, out),
-    }
-}
-
-fn refusal_text(refusal: Refusal, out: &mut impl Sink) {
-    out.word(b"refused ");
-    out.number(refusal.number as i64);
-    out.word(b" at ");
-    out.number(refusal.place as i64);
-    out.word(b"\n");
+/// The line that the listing program prints of a refused sheet.
+pub fn refusal_line(refusal: Refusal) -> String {
+    format!("refused {} at {}\n", refusal.number, refusal.place)
 }

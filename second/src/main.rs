@@ -75,13 +75,14 @@ fn operation(name: &str) -> Result<u8, String> {
     }
 }
 
-/// The listing program: a sheet from standard input, its text to standard output.
+/// The listing program: a sheet from standard input, its text or its refusal to standard output.
 fn list() -> io::Result<bool> {
     let mut sheet = Vec::new();
     io::stdin().read_to_end(&mut sheet)?;
-    let mut text = vec![0; protocol::TEXT_MAX];
-    if let Ok(length) = listing::list(&sheet, &mut text) {
-        io::stdout().write_all(&text[..length])?;
+    let mut text = vec![0; listing::LISTING_MAX];
+    match listing::list(&sheet, &mut text) {
+        Ok(length) => io::stdout().write_all(&text[..length])?,
+        Err(refusal) => print!("{}", listing::refusal_line(refusal)),
     }
     Ok(true)
 }

@@ -2,7 +2,7 @@
 
 use crate::listing;
 use crate::pattern::{self, Four};
-use crate::sheet::{self, Design, Refusal};
+use crate::sheet::{self, Refusal};
 use std::io::{self, BufRead, BufReader, BufWriter, Read, Write};
 
 pub const BYTES_MAX: usize = 40_000;
@@ -230,20 +230,12 @@ impl Case {
             Case::List { room, .. } => Some(17 + room),
         }
     }
+}
 
-    /// Number and place in an answer; for a listing those that it prints.
-    pub fn reply(&self, answer: &[u8]) -> (u8, u64) {
-        let place = u64::from_le_bytes(answer[1..9].try_into().unwrap());
-        if let Case::List { sheet, .. } = self {
-            if answer[0] == 0 {
-                return match Design::new(sheet).read() {
-                    Ok(()) => (0, 0),
-                    Err(refusal) => (refusal.number, refusal.place as u64),
-                };
-            }
-        }
-        (answer[0], place)
-    }
+/// Number and place in an answer.
+pub fn reply(answer: &[u8]) -> (u8, u64) {
+    let place = u64::from_le_bytes(answer[1..9].try_into().unwrap());
+    (answer[0], place)
 }
 
 struct Input<'r, R>(&'r mut R);

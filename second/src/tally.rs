@@ -3,7 +3,7 @@
 use crate::cases::Aim;
 use crate::drive::numbers_of;
 use crate::envelope::Verdict;
-use crate::protocol::{Case, LAST, NAMES};
+use crate::protocol::{reply, Case, LAST, NAMES};
 use crate::sheet::Design;
 use std::collections::BTreeMap;
 
@@ -25,7 +25,7 @@ pub struct Tally {
 impl Tally {
     /// Counts one case and its answer; says so where the answer isn't the one aimed at.
     pub fn count(&mut self, case: &Case, aim: &Option<Aim>, answer: &[u8]) -> Option<String> {
-        let (number, place) = case.reply(answer);
+        let (number, place) = reply(answer);
         self.met.entry(number).or_default()[case.op() as usize - 1] += 1;
         if let (Case::WorkOut { sheet, .. }, 0) = (case, number) {
             self.look(sheet);

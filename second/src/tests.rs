@@ -2,10 +2,10 @@
 
 use crate::cases;
 use crate::envelope::{div_down, div_up, Envelope, Verdict};
-use crate::listing::list;
+use crate::listing::{list, refusal_line, LISTING_MAX};
 use crate::model::{marked, not, on, Expr, Model, Word};
 use crate::pattern::{check, first, next, Four};
-use crate::protocol::Case;
+use crate::protocol::{reply, Case};
 use crate::samples::{full, typical, EXAMPLE};
 use crate::sheet::{close, quote, work_out, Counts, Design, Refusal, SHEET_MAX};
 
@@ -146,8 +146,6 @@ fn example() {
     assert!(lent.iter().all(|&byte| byte == 9));
     assert_eq!(list(&EXAMPLE, &mut lent), Ok(text.len()));
     assert_eq!(&lent[..text.len()], text.as_bytes());
-    assert_eq!(list(&EXAMPLE[..45], &mut lent), Ok(16));
-    assert_eq!(&lent[..16], b"refused 1 at 44\n");
 
     let (mut clocks, mut links) = ([7; 13], [7; 10]);
     let counts = work_out(&EXAMPLE, &mut clocks, &mut links);
@@ -162,6 +160,39 @@ fn example() {
     assert_eq!(links, [0, 2, 0, 2, 0, 0, 1, 0, 1, 7]);
     let short = work_out(&EXAMPLE, &mut clocks[..11], &mut links);
     assert_eq!(short, refused(11, 0));
+}
+
+#[test]
+fn a_refused_sheet_has_no_listing() {
+    for room in [0, 1, 15, 16, 17, LISTING_MAX] {
+        let mut lent = vec![9; room];
+        assert_eq!(list(&EXAMPLE[..45], &mut lent), refused(1, 44));
+        assert!(lent.iter().all(|&byte| byte == 9));
+    }
+    let refusal = list(&EXAMPLE[..45], &mut []).unwrap_err();
+    assert_eq!(refusal_line(refusal), "refused 1 at 44\n");
+}
+
+/// As many clocks and links as there may be, with the widest numbers; two of the clocks give the largest size.
+#[test]
+fn the_longest_listing_fits() {
+    let mut fours = vec![[-1_000_000_000, 1_000_000_000, 1_000_000, 999_999]; 126];
+    fours.push([-1_000_000_000, 1_000_000_000, 1, 1]);
+    fours.push([1_000_000_000, 1_000_000_000, 1, 1]);
+    let sheet = Model {
+        words: Vec::new(),
+        clocks: fours
+            .iter()
+            .map(|&four| (1, Expr::Declared(four)))
+            .collect(),
+        links: vec![(126, 127); 256],
+    };
+    let bytes = sheet.write().bytes;
+    let mut lent = vec![9; LISTING_MAX];
+    assert_eq!(list(&bytes, &mut lent[..18_080]), refused(11, 0));
+    assert_eq!(list(&bytes, &mut lent), Ok(18_081));
+    assert!(lent[..18_081].ends_with(b"accepted 2000000000\nroom 0 512000000000\n"));
+    assert!(lent[18_081..].iter().all(|&byte| byte == 9));
 }
 
 #[test]
@@ -229,7 +260,7 @@ fn cases_come_back_from_their_bytes() {
         case.answer(&mut answer);
         assert_eq!(case.answer_length(&answer), Some(answer.len()));
         if let Some(aim) = aim {
-            assert_eq!(case.reply(&answer), (aim.number, aim.place));
+            assert_eq!(reply(&answer), (aim.number, aim.place));
         }
     }
 }
