@@ -1,14 +1,17 @@
 -- The three demands, in the request's order and words. A reader who believes the definitions below can match each field to a phrase.
 --
--- What must be believed, and where it stands (`tools/believed` counts its lines):
---   the bytes of a sheet, and what refuses them: field/specs/{Read, Spelling, Field, Format}, expression/specs/{Expression, Format}, sheet/specs/{Sheet, Opened, Format}
---   envelopes and their rules: whole/specs/{Rounding, Euclid, Order}, envelope/specs/{Limits, Envelope, Word, Standing, Made}, expression/specs/Evaluate
+-- What must be believed, and where it stands (`tools/believed` counts its lines, and the tests hold this list to it):
+--   what stands where in a sheet's bytes, and what refuses them: field/specs/{Field, Format, Spelling}, expression/specs/{Expression, Format},
+--     sheet/specs/{Sheet, Opened, Format}
+--   envelopes and their rules: whole/specs/{Rounding, Euclid, Order}, envelope/specs/{Limits, Envelope, Word, Made}, expression/specs/Evaluate
 --   streams and what a clock can stand for: envelope/specs/Stream, expression/specs/Stands
 --   links, rooms and the result slices: link/specs/{Link, Promise}, sheet/specs/{Rooms, WorkOut, Promise}, expression/specs/Table
---   closing and quoting: register/specs/{Locating, Closing, OpenLinks, Table, Promise}
---   patterns: pattern/specs/{Step, Pattern, Beginning, Table, Walk}; the listing: line/specs/Text, report/specs/{Listing, Table}
---   the numbers of the replies: reply/specs/Numbers; "fixed": Entry
--- The contracts of the entry points and the reader of a sheet that they go by (sheet/specs/Reader) need not be: the fields say what each gives, both ways.
+--   closing and quoting: register/specs/{Closing, Table, Promise}
+--   patterns: pattern/specs/{Step, Pattern, Beginning, Table, Walk}
+--   the listing: line/specs/{Letters, Text}, report/specs/{Listing, Table}
+--   "fixed": demands/specs/Entry
+-- and the types that are passed, in the src/ of envelope, link, pattern, register, report and sheet.
+-- The contracts of the entry points need not be believed: the fields say what each gives, both ways. src/lib.rt has each entry point behind its contract.
 -- What only inner functions and proofs use stands in specs/Inner.
 -- That every function ends and never does anything undefined is part of every contract's proof and needs no statement.
 use mathlib.Core.Path.{_≡_}
