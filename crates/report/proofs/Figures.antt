@@ -11,12 +11,12 @@ use Rattle.expression.specs.Evaluate.{fieldsKept, declaredWorth}
 use Rattle.field.specs.Run.{run}
 use Rattle.expression.specs.Format.{parts, expression}
 use Rattle.expression.specs.Reader.{exprAt}
-use Rattle.sheet.specs.Reader.{rowsAt, sectionAt, bitsAt, wordAt, clockAt, linkAt, readFrom, readSheet}
+use Rattle.sheet.specs.Reader.{rowsAt, sectionAt, bitsAt, wordAt, clockAt, linkAt, linksOn, clocksOn, readFrom, readSheet}
 use Rattle.sheet.specs.Rooms.{total}
 use Rattle.line.specs.Text.{lastDigits, digits, decimal, lineOf}
 use Rattle.report.specs.Listing.{clockLines, linkLines, wholeText, listingOf}
 use Rattle.report.specs.Figures.{given, said}
 
 pub figures : given ≡ said
-unfolding listingOf wholeText clockLines linkLines lineOf decimal digits lastDigits readSheet readFrom sectionAt rowsAt bitsAt wordAt clockAt linkAt run expression parts exprAt fieldIn fieldAt lowFirst signedIn signedAt signed onesIn wordOf wordBit offsets ones fieldsKept declaredWorth declaredOf negatedOf limited normalOf notOf resultOf withinLimits hasRoom gcdOf euclid verdictOf earlyOf sizeOf total
+unfolding listingOf wholeText clockLines linkLines lineOf decimal digits lastDigits readSheet readFrom clocksOn linksOn sectionAt rowsAt bitsAt wordAt clockAt linkAt run expression parts exprAt fieldIn fieldAt lowFirst signedIn signedAt signed onesIn wordOf wordBit offsets ones fieldsKept declaredWorth declaredOf negatedOf limited normalOf notOf resultOf withinLimits hasRoom gcdOf euclid verdictOf earlyOf sizeOf total
 figures = refl

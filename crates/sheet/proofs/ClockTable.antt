@@ -8,7 +8,7 @@ use native.Mathlib.Omega.{arith}
 use lib.IntN.{ℤ}
 use lib.ListN.{length, take, set}
 use lib.Seq.{sets}
-use Rattle.reply.specs.Numbers.{unknown}
+use Rattle.reply.specs.Numbers.{beyond, unknown}
 use Rattle.field.specs.Read.{Read, Read.got, Read.refused, bind, mapped}
 use Rattle.field.specs.Field.{fieldIn, fieldOf}
 use Rattle.field.specs.declared.Field.{Field}
@@ -21,10 +21,11 @@ use Rattle.expression.specs.Format.{Valued}
 use Rattle.expression.specs.Table.{flat}
 use Rattle.expression.specs.Inner.Nodes.{nodesIn, Holds}
 use Rattle.expression.proofs.Answers.{answer, answer-taken}
-use Rattle.sheet.specs.Reader.{rowsAt, clockAt}
+use Rattle.sheet.specs.Sheet.{clocksMost}
+use Rattle.sheet.specs.Reader.{rowsAt, sectionAt, clockAt}
 use Rattle.sheet.specs.Opened.{ClockNode, nodeOfClock}
 use Rattle.sheet.specs.Inner.Sections.{Mark, markedAt, stateOfRow, ClockRows}
-use Rattle.sheet.proofs.Readings.{mapped-got, mapped-refused, reached-none, reached-more, reached-refused, reached-all}
+use Rattle.sheet.proofs.Readings.{section-none, section-rows, mapped-got, mapped-refused, reached-none, reached-more, reached-refused, reached-all}
 use Rattle.sheet.proofs.NodeTables.{map-more, Stored, stored-none, stored-more, stored-nodes, Left}
 
 -- ---- a clock, with the expression left out
@@ -123,3 +124,13 @@ clocks-states (got xs d) r t ss rows c e h =
     let z : xs ≡ rows = cc in
     subst (λ (ys : List ClockNode). take (length ys) ss ≡ map stateOfRow ys) z (h .2)
 clocks-states (refused number place) r t ss rows c e h = refused-got e
+
+-- ---- the section, by its count
+module _ (s : List ℕ) (xs : List Node) (a : ℕ) (r : Field) (t : List ℤ) (ss : List ℕ) where
+  pub section-refused : (number place : ℕ) → fieldIn 2 0 (clocksMost + 1) beyond s a ≡ refused number place → fieldOf r ≡ refused number place
+      → ClockRows (sectionAt (clockAt s xs) clocksMost s a) r t ss
+  section-refused number place count e = rw (section-none (clockAt s xs) clocksMost s a number place count) e
+
+  pub section-left : (n c : ℕ) → fieldIn 2 0 (clocksMost + 1) beyond s a ≡ got n c → ClockRows (rowsAt (clockAt s xs) n [] c) r t ss
+      → ClockRows (sectionAt (clockAt s xs) clocksMost s a) r t ss
+  section-left n c count h = rw (section-rows (clockAt s xs) clocksMost s a n c count) h

@@ -19,7 +19,7 @@ use Rattle.expression.specs.Evaluate.{Worth.fault, evaluate, wordNode, wordNode
 use Rattle.expression.specs.Spelled.{indexes, InRange}
 use Rattle.expression.specs.Blame.{blame}
 use Rattle.sheet.specs.Sheet.{Sheet, wordsMost, clocksMost, bytesMost, rows, section, spellSheet, Every, Each, WordRow, ClockRow, Legal}
-use Rattle.sheet.specs.Reader.{sectionAt, clockAt, readFrom, readSheet}
+use Rattle.sheet.specs.Reader.{sectionAt, clockAt, linksOn, clocksOn, readFrom, readSheet}
 use Rattle.sheet.specs.Opened.{ClockNode, clockOf, nodeOfClock, Opened}
 use Rattle.sheet.specs.Format.{sheet}
 use Rattle.sheet.specs.WorkOut.{workedOf}
@@ -53,7 +53,7 @@ module _ (s : List ℕ) where
       → InRange (length words) (length zs) (k .expr) → evaluate (wordNodes words) (map nodeOfClock zs) (k .expr) ≡ fault number
       → Bytes s 0 (section spellWord words) a → Bytes s a (bytesOf 2 (length zs + suc m)) b → Bytes s b (rows spellRow zs) d → Bytes s d (spellClock k) e
       → readFrom 0 s ≡ refused number (suc d + blame (wordNodes words) (map nodeOfClock zs) (k .expr))
-  unfolding readFrom
+  unfolding readFrom clocksOn linksOn
   rows-to-fault words zs k number m a b d e hw lw hz lz hk i v bw bn bz bk =
       let ws : List Node = wordNodes words in
       let few : length ws ≤ indexes = few-words s words hw lw in

@@ -21,7 +21,7 @@ use Rattle.expression.specs.Expression.{Word, depthMost}
 use Rattle.expression.specs.Evaluate.{wordNodes}
 use Rattle.expression.specs.Reader.{exprAt}
 use Rattle.sheet.specs.Sheet.{Link, wordsMost, clocksMost, linksMost, bytesMost}
-use Rattle.sheet.specs.Reader.{rowsAt, sectionAt, bitsAt, wordAt, clockAt, linkAt, readFrom, readSheet}
+use Rattle.sheet.specs.Reader.{rowsAt, sectionAt, bitsAt, wordAt, clockAt, linkAt, linksOn, clocksOn, readFrom, readSheet}
 use Rattle.sheet.specs.Opened.{ClockNode, nodeOfClock, Opened}
 use Rattle.sheet.specs.Format.{many, counted, bits, wordRow, clockRow, linkRow, sheet, Refused, Refused.too-long, Refused.faulty, Refused.bytes-after, Passed}
 
@@ -75,7 +75,7 @@ module _ (s : List ℕ) where
   link-run n xs a = bind-same _ _ _ _ (ranged-run 2 0 n absent s a) λ p c. bind-same _ _ _ _ (ranged-run 2 0 n absent s c) λ q d. refl
 
   sheet-run : (a : ℕ) → readFrom a s ≡ bind (run sheet s a) (ended s)
-  unfolding run sheet readFrom
+  unfolding run sheet readFrom clocksOn linksOn
   sheet-run a = sym (
       bind-assoc (run (counted (λ xs. wordRow) wordsMost) s a) _ _
       ∙ bind-same _ _ _ _ (counted-run (λ xs. wordRow) (λ xs a. wordAt s a) (λ xs a. word-run a) wordsMost a) λ ws b.

@@ -17,7 +17,7 @@ pub mod NodeTables
 pub mod WordTable
 pub mod ClockTable
 pub mod LinkRows
+pub mod LinkTable
 pub mod Written
-pub mod Copies
 pub mod Stages
 pub mod Outcome

@@ -10,11 +10,11 @@ use lib.IntN.{ℤ, pos, negsuc, natAbs, _-ℤ_, _*ℤ_}
 use lib.Signed.{_≤ℤ_}
 use lib.Dec.{eqb}
 use lib.ListN.{length, getD, getElem?}
-use Rattle.reply.specs.Numbers.{beyond, absent}
+use Rattle.reply.specs.Numbers.{absent}
 use Rattle.whole.specs.Rounding.{ceilDiv}
 use Rattle.whole.proofs.Bridge.{up, orders, up-mul, down-mul, up-diff-le}
 use Rattle.whole.proofs.Rounding.{ceil-least}
-use Rattle.field.specs.Read.{Read, Read.got, Read.refused, mapped}
+use Rattle.field.specs.Read.{Read, Read.got}
 use Rattle.field.specs.Field.{fieldIn}
 use Rattle.field.proofs.Read.{through}
 use Rattle.field.proofs.Fields.{field-there}
@@ -29,11 +29,10 @@ use Rattle.link.specs.Link.{sizeOf, verdictOf, numberOf, sizeIn, stateOf, openS
 use Rattle.link.proofs.Links.{size-least, accepted-is}
 use Rattle.expression.specs.Inner.Nodes.{nodesIn, nodeAt, AllTaken, Holds}
 use Rattle.expression.proofs.Tables.{node-at}
-use Rattle.sheet.specs.Sheet.{Link, linksMost}
-use Rattle.sheet.specs.Reader.{rowsAt, sectionAt, linkAt}
+use Rattle.sheet.specs.Sheet.{Link}
+use Rattle.sheet.specs.Reader.{linkAt}
 use Rattle.sheet.specs.Rooms.{verdictBetween, verdictIn, sizeOfRow}
 use Rattle.sheet.specs.Inner.Sections.{rowAt}
-use Rattle.sheet.proofs.Readings.{Reached, reached-all, section-none, section-rows}
 
 -- ---- a link that was read
 
@@ -52,18 +51,6 @@ ends-there s m xs a l c h =
     let p₁ : r .0 ≡ l .producer = ap (λ (x : Link). x .producer) e in
     let p₂ : q .0 ≡ l .consumer = ap (λ (x : Link). x .consumer) e in
     (omega (arith, field-there 2 0 m absent s a (r .0) (r .1) (r .2) .most, p₁), omega (arith, field-there 2 0 m absent s (r .1) (q .0) (q .1) (q .2) .most, p₂))
-
--- ---- the section, by its count
-module _ (s : List ℕ) (m a : ℕ) where
-  pub links-none : (number place : ℕ) → fieldIn 2 0 (linksMost + 1) beyond s a ≡ refused number place → mapped length (sectionAt (linkAt s m) linksMost s a) ≡ refused number place
-  links-none number place count = rw (section-none (linkAt s m) linksMost s a number place count)
-
-  module _ (n c : ℕ) (count : fieldIn 2 0 (linksMost + 1) beyond s a ≡ got n c) where
-    pub links-refused : (number place : ℕ) → rowsAt (linkAt s m) n [] c ≡ refused number place → mapped length (sectionAt (linkAt s m) linksMost s a) ≡ refused number place
-    links-refused number place e = rw (section-rows (linkAt s m) linksMost s a n c count, e)
-
-    pub links-got : (i b : ℕ) → i ≡ n → Reached (linkAt s m) n i c b → mapped length (sectionAt (linkAt s m) linksMost s a) ≡ got n b
-    links-got i b e h = rw (section-rows (linkAt s m) linksMost s a n c count, reached-all (linkAt s m) n i c b h e) (ap (λ (x : ℕ). got x b) (h .many ∙ e))
 
 -- ---- sizes are small
 size-small : (e f : Envelope) → Taken e → Taken f → Passes e f → natAbs (sizeOf e f) ≤ 3000000000
@@ -119,15 +106,15 @@ pub entry-taken : (t : List ℤ) (i : ℕ) (x : Node) → Holds t → 4 * i + 3 
 entry-taken t i x h l p = subst (λ (y : Node). Taken (y .envelope)) (sym p) (h .taken i (nodeAt t i) (node-at t i l))
 
 pub row-is :
-    (t : List ℤ) (ss : List ℕ) (i j : ℕ) (x y : Node) (v : Verdict) (state : ℕ) →
-    4 * i + 3 < length t →
-    4 * j + 3 < length t →
-    x ≡ nodeAt t i →
-    y ≡ nodeAt t j →
+    (t : List ℤ) (ss : List ℕ) (l : Link) (x y : Node) (v : Verdict) (state : ℕ) →
+    4 * l .producer + 3 < length t →
+    4 * l .consumer + 3 < length t →
+    x ≡ nodeAt t (l .producer) →
+    y ≡ nodeAt t (l .consumer) →
     v ≡ verdictOf (x .envelope) (y .envelope) →
-    state ≡ stateOf (getD ss i 0) (getD ss j 0) →
-    _≡_ {A = Row} (record { producer = i; consumer = j; state = state; verdict = v }) (rowAt (nodesIn t) ss i j)
-row-is t ss i j x y v state hi hj p q r e =
-    let w : v ≡ verdictBetween (getElem? (nodesIn t) i) (getElem? (nodesIn t) j) =
-    r ∙ ap₂ (λ (x y : Node). verdictOf (x .envelope) (y .envelope)) p q ∙ sym (ap₂ verdictBetween (node-at t i hi) (node-at t j hj)) in
-    λ k. record { producer = i; consumer = j; state = e k; verdict = w k }
+    state ≡ stateOf (getD ss (l .producer) 0) (getD ss (l .consumer) 0) →
+    _≡_ {A = Row} (record { producer = l .producer; consumer = l .consumer; state = state; verdict = v }) (rowAt (nodesIn t) ss l)
+row-is t ss l x y v state hi hj p q r e =
+    let w : v ≡ verdictBetween (getElem? (nodesIn t) (l .producer)) (getElem? (nodesIn t) (l .consumer)) =
+    r ∙ ap₂ (λ (x y : Node). verdictOf (x .envelope) (y .envelope)) p q ∙ sym (ap₂ verdictBetween (node-at t (l .producer) hi) (node-at t (l .consumer) hj)) in
+    λ k. record { producer = l .producer; consumer = l .consumer; state = e k; verdict = w k }

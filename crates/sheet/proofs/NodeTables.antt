@@ -2,10 +2,12 @@
 -- Assumes nothing.
 use mathlib.Core.Path.{_≡_, refl, sym, ap, _∙_, subst}
 use mathlib.Core.List.{List, [], _∷_, _++_, map}
+use mathlib.Core.Option.{some}
 use Prim.Native.Nat.{ℕ, zero, suc, _+_, _*_, _<_}
+use native.Mathlib.Numerals.{add-one}
 use native.Mathlib.Omega.{arith}
 use lib.IntN.{ℤ}
-use lib.ListN.{length, take, length-append}
+use lib.ListN.{length, take, getElem?, length-append}
 use lib.Seq.{sets, sets-eq, take-at, length-take-le}
 use Rattle.field.specs.Read.{Read, Read.got, Read.refused}
 use Rattle.field.specs.Field.{fieldOf}
@@ -15,9 +17,9 @@ use Rattle.field.proofs.Read.{refused-got}
 use Rattle.envelope.specs.declared.Node.{Node}
 use Rattle.envelope.specs.Envelope.{Taken}
 use Rattle.expression.specs.Table.{flat, flats}
-use Rattle.expression.specs.Inner.Nodes.{nodesIn, AllTaken, Holds}
+use Rattle.expression.specs.Inner.Nodes.{nodesIn, nodeAt, AllTaken, Holds}
 use Rattle.expression.proofs.Lookup.{none-some}
-use Rattle.expression.proofs.Tables.{flats-back, flats-more, flats-holds}
+use Rattle.expression.proofs.Tables.{node-at, flats-back, flats-more, flats-holds}
 use Rattle.sheet.specs.Reader.{rowsAt}
 use Rattle.sheet.proofs.Readings.{refused-same, Reached, reached-none, reached-more, reached-all}
 
@@ -126,3 +128,12 @@ module _ {A : Type 0} (f : A → Node) where
         taken = h .2;
       }
   left-got (refused k q) r t n c h e = refused-got (sym h ∙ ap fieldOf e)
+
+-- ---- the nodes of a table, one by one
+pub nodes-next : (t : List ℤ) (i : ℕ) (x : Node) → 4 * i + 3 < length t → x ≡ nodeAt t i → take (i + 1) (nodesIn t) ≡ take i (nodesIn t) ++ (x ∷ [])
+nodes-next t i x h e = rw (add-one i) (go (nodesIn t) i (node-at t i h ∙ ap some (sym e)))
+  where
+    go : (xs : List Node) (i : ℕ) → getElem? xs i ≡ some x → take (suc i) xs ≡ take i xs ++ (x ∷ [])
+    go [] i h = none-some h
+    go (y ∷ xs) zero h = let z : y ≡ x = cc in ap {B = List Node} (λ w. w ∷ []) z
+    go (y ∷ xs) (suc i) h = ap {B = List Node} (λ r. y ∷ r) (go xs i h)

@@ -9,30 +9,26 @@ use lib.ListN.{length, getD, getElem?, take, drop, length-map}
 use borrow.Author.Tests.{le-leb, lt-leb}
 use Rattle.reply.specs.Numbers.{shortResult}
 use Rattle.field.specs.Read.{Read, Read.got, Read.refused}
-use Rattle.field.specs.Spelling.{AllBytes, Bytes}
-use Rattle.field.proofs.Spelling.{end, split, itself}
+use Rattle.field.specs.Spelling.{AllBytes}
 use Rattle.link.specs.declared.Row.{Row}
-use Rattle.link.specs.Link.{stateOf, openSizeOf}
-use Rattle.expression.specs.Expression.{Clock, spellWord, spellClock}
-use Rattle.expression.specs.Spelled.{indexes}
+use Rattle.link.specs.Link.{stateOf}
+use Rattle.expression.specs.Expression.{Clock}
+use Rattle.envelope.specs.declared.Node.{Node}
 use Rattle.expression.specs.Table.{flats}
 use Rattle.expression.specs.Inner.Nodes.{nodesIn}
-use Rattle.expression.proofs.Tables.{flats-length}
+use Rattle.expression.proofs.Tables.{flats-length, nodes-many}
 use Rattle.sheet.specs.declared.Found.{Found}
 use Rattle.sheet.specs.declared.Reading.{Reading}
 use Rattle.sheet.specs.declared.Rooms.{Rooms}
 use Rattle.sheet.specs.declared.Reply.{Reply}
-use Rattle.sheet.specs.Sheet.{Link, Sheet, clocksMost, linksMost, spellLink, section, spellSheet, LinkRow}
-use Rattle.sheet.specs.Reader.{rowsAt, sectionAt, linkAt, readSheet}
+use Rattle.sheet.specs.Sheet.{Link, clocksMost, linksMost}
+use Rattle.sheet.specs.Reader.{readSheet}
 use Rattle.sheet.specs.Opened.{Opened}
-use Rattle.sheet.specs.Rooms.{markOf, rowOf, rowsOf, total, openRoom, wholeRoom, sizeOfRow, verdictIn}
-use Rattle.sheet.specs.WorkOut.{workedOf, refusalOf, flatRows, WorksOut}
-use Rattle.sheet.specs.Inner.Sections.{foundOf, readingOf, Tabled, rowAt, rowsIn, linksFrom, roomsOf, rowsFrom, Ready}
-use Rattle.sheet.specs.Inner.Sections.{stateOfClock}
-use Rattle.sheet.proofs.Rows.{section-read}
-use Rattle.sheet.proofs.Links.{link-read}
+use Rattle.sheet.specs.Rooms.{markOf, rowOf, rowsOf, openRoom, wholeRoom, verdictIn}
+use Rattle.sheet.specs.WorkOut.{roomFor, workedOf, refusalOf, replyOf, clockNumbers, linkNumbers, flatten, clocksOut, linksOut, WorksOut}
+use Rattle.sheet.specs.Inner.Sections.{flatLinks, linksOf, foundOf, readingOf, stateOfClock, Tabled, rowAt, rowsIn, roomsOver, Ready, Given}
 use Rattle.sheet.proofs.Sheets.{Opens, sheet-reads}
-use Rattle.sheet.proofs.Readings.{sectioned}
+use Rattle.sheet.proofs.LinkTable.{flat-length, links-flat, ends-small, links-many}
 use Rattle.sheet.proofs.NodeTables.{lent-holds, lent-nodes}
 
 -- ---- the reading, by what the code's reader answered
@@ -64,26 +60,11 @@ pub out-refused : (s : List ℕ) (clocks links : List ℤ) (number place : ℕ) 
     → WorksOut s clocks links r clocks links
 out-refused s clocks links number place r e h = record { reply-is = rw e h; clocks-are = rw e; links-are = rw e }
 
-module _ (s : List ℕ) (A B : ℕ) where
-  pub not-read : (number place : ℕ) → readSheet s ≡ refused number place → workedOf s A B ≡ refused number place
-  unfolding workedOf
-  not-read number place e = rw e
+pub not-read : (s : List ℕ) (A B number place : ℕ) → readSheet s ≡ refused number place → workedOf s A B ≡ refused number place
+unfolding workedOf
+not-read s A B number place e = rw e
 
-  module _ (o : Opened) (c : ℕ) (read : readSheet s ≡ got o c) (f : Found) (f-is : foundOf o ≡ f) where
-    pub short-clocks : A < 4 * f .clocks → workedOf s A B ≡ refused shortResult 0
-    unfolding workedOf
-    short-clocks h = rw (read, clocks-are o f f-is, lt-leb (4 * f .clocks) A h)
-
-    module _ (fits : 4 * f .clocks ≤ A) where
-      pub short-links : B < 3 * f .links → workedOf s A B ≡ refused shortResult 0
-      unfolding workedOf
-      short-links h = rw (read, clocks-are o f f-is, links-are o f f-is, le-leb (4 * f .clocks) A fits, lt-leb (3 * f .links) B h)
-
-      enough : 3 * f .links ≤ B → workedOf s A B ≡ got o c
-      unfolding workedOf
-      enough h = rw (read, clocks-are o f f-is, links-are o f f-is, le-leb (4 * f .clocks) A fits, le-leb (3 * f .links) B h)
-
--- ---- the links of a sheet that was read stand where its clocks end
+-- ---- a sheet that was read
 module _ (s : List ℕ) (bytes : AllBytes s) (o : Opened) (c : ℕ) (read : readSheet s ≡ got o c) where
   opens : Opens s o c
   opens = sheet-reads s bytes o c read
@@ -93,21 +74,6 @@ module _ (s : List ℕ) (bytes : AllBytes s) (o : Opened) (c : ℕ) (read : read
 
   few-links : length (o .sheet .links) ≤ linksMost
   few-links = opens .legal .links-most
-
-  links-there : rowsAt (linkAt s (length (o .table))) (length (o .sheet .links)) [] (foundOf o .linkrows) ≡ got (o .sheet .links) (length s)
-  unfolding spellSheet
-  links-there =
-      let v : Sheet = o .sheet in
-      let n : ℕ = length (v .clocks) in
-      let m : n ≤ indexes = omega (arith, opens .legal .clocks-most) in
-      let b : Bytes s 0 (spellSheet v) (length s) = subst (λ (x : List ℕ). Bytes x 0 (spellSheet v) (length x)) (sym (opens .bytes)) (itself (spellSheet v) []) in
-      let b₁ = split (section spellWord (v .words)) _ b in
-      let b₂ = split (section spellClock (v .clocks)) _ (b₁ .2) in
-      let f : sectionAt (linkAt s n) linksMost s (b₂ .0) ≡ got (v .links) (length s) =
-      section-read s (linkAt s n) spellLink (λ xs l. LinkRow n l) (λ xs a l c k. link-read s n xs a l c m) linksMost (b₂ .0) (v .links) (length s) (omega arith) (opens .legal .links-most) (opens .legal .links-legal) (b₂ .2) in
-      let place : foundOf o .linkrows ≡ b₂ .0 + 2 = omega (arith, end (b₁ .1) .0, end (b₂ .1) .0) in
-      ap₂ (λ (x y : ℕ). rowsAt (linkAt s x) (length (v .links)) [] y) (opens .worked .many) place
-      ∙ sectioned (linkAt s n) linksMost s (b₂ .0) (v .links) (length s) f .rows
 
 -- ---- a clock's mark is its state in the table
 state-at : (cs : List Clock) (i : ℕ) → getD (map stateOfClock cs) i 0 ≡ markOf (getElem? cs i)
@@ -123,10 +89,10 @@ rows-are o (l ∷ ls) = ap₂ {C = List Row} (λ r rs. r ∷ rs) one (rows-are o
         ≡ stateOf (markOf (getElem? (o .sheet .clocks) (l .producer))) (markOf (getElem? (o .sheet .clocks) (l .consumer)))
     state = ap₂ stateOf (state-at (o .sheet .clocks) (l .producer)) (state-at (o .sheet .clocks) (l .consumer))
 
-    one : rowAt (o .table) (map stateOfClock (o .sheet .clocks)) (l .producer) (l .consumer) ≡ rowOf o l
+    one : rowAt (o .table) (map stateOfClock (o .sheet .clocks)) l ≡ rowOf o l
     one = λ i. record { producer = l .producer; consumer = l .consumer; state = state i; verdict = verdictIn (o .table) l }
 
--- ---- a sheet that was read, by what was found: how many clocks and links, and where the links' rows begin
+-- ---- a sheet that was read, by what was found: how many clocks and links
 module _ (s : List ℕ) (bytes : AllBytes s) (o : Opened) (c : ℕ) (read : readSheet s ≡ got o c) (f : Found) (f-is : foundOf o ≡ f) where
   pub clocks-few : f .clocks ≤ clocksMost
   clocks-few = omega (arith, few-clocks s bytes o c read, clocks-are o f f-is)
@@ -135,9 +101,9 @@ module _ (s : List ℕ) (bytes : AllBytes s) (o : Opened) (c : ℕ) (read : read
   links-few = omega (arith, few-links s bytes o c read, links-are o f f-is)
 
   -- with its tables
-  module _ (t : List ℤ) (ss : List ℕ) (tabled : Tabled (readSheet s) t ss) where
-    tables : Tabled (got o c) t ss
-    tables = subst (λ (r : Read Opened). Tabled r t ss) read tabled
+  module _ (t : List ℤ) (ss es : List ℕ) (tabled : Tabled (readSheet s) t ss es) where
+    tables : Tabled (got o c) t ss es
+    tables = subst (λ (r : Read Opened). Tabled r t ss es) read tabled
 
     nodes : take (4 * f .clocks) t ≡ flats (o .table)
     nodes = rw (← clocks-are o f f-is) (tables .0)
@@ -148,65 +114,77 @@ module _ (s : List ℕ) (bytes : AllBytes s) (o : Opened) (c : ℕ) (read : read
     pub table-is : nodesIn (take (4 * f .clocks) t) ≡ o .table
     table-is = lent-nodes t (f .clocks) (o .table) nodes (tables .2)
 
-    nodes-many : length (take (4 * f .clocks) t) ≡ 4 * f .clocks
-    nodes-many = ap length nodes ∙ flats-length (o .table) ∙ ap (λ (x : ℕ). 4 * x) (clocks-are o f f-is)
+    lent-many : length (take (4 * f .clocks) t) ≡ 4 * f .clocks
+    lent-many = ap length nodes ∙ flats-length (o .table) ∙ ap (λ (x : ℕ). 4 * x) (clocks-are o f f-is)
 
     states-many : length (take (f .clocks) ss) ≡ f .clocks
     states-many = ap length states ∙ length-map (o .sheet .clocks) stateOfClock ∙ sym (opens s bytes o c read .worked .many) ∙ clocks-are o f f-is
 
-    pub there : rowsAt (linkAt s (length (take (f .clocks) ss))) (f .links) [] (f .linkrows) ≡ got (o .sheet .links) (length s)
-    there =
-        let at-is : foundOf o .linkrows ≡ f .linkrows = ap (λ (x : Found). x .linkrows) f-is in
-        rw (states-many, ← clocks-are o f f-is, ← links-are o f f-is, ← at-is) (links-there s bytes o c read)
+    ends : take (2 * f .links) es ≡ flatLinks (o .sheet .links)
+    ends = rw (← links-are o f f-is) (tables .3)
 
-    pub ready : (B : ℕ) → 3 * f .links ≤ B → Ready s (take (4 * f .clocks) t) (take (f .clocks) ss) (f .links) B (f .linkrows)
-    ready B h =
+    pub links-is : linksOf (take (2 * f .links) es) ≡ o .sheet .links
+    links-is = ap linksOf ends ∙ links-flat (o .sheet .links)
+
+    pub ready : Ready (take (4 * f .clocks) t) (take (f .clocks) ss) (take (2 * f .links) es) (f .links)
+    ready =
+        let q = opens s bytes o c read in
         record {
           table = lent-holds t (f .clocks) (o .table) nodes (tables .2);
-          many = nodes-many ∙ ap (λ (x : ℕ). 4 * x) (sym states-many);
+          many = lent-many ∙ ap (λ (x : ℕ). 4 * x) (sym states-many);
           few-clocks = omega (arith, states-many, clocks-few);
           few-links = links-few;
-          fits = h;
-          links = o .sheet .links;
-          past = length s;
-          there = there;
+          pairs = ap length ends ∙ flat-length (o .sheet .links) ∙ ap (λ (x : ℕ). 2 * x) (links-are o f f-is);
+          there =
+              rw (ends, states-many, ← clocks-are o f f-is, q .worked .many)
+              (ends-small (length (o .sheet .clocks)) [] (o .sheet .links) (q .legal .links-legal));
         }
 
-    -- the links, from the tables
-    written : List Link
-    written = linksFrom s (length (take (f .clocks) ss)) (f .links) (f .linkrows)
+    -- what is given of the tables is what working the sheet out gives
+    pub out-given : (x x′ l l′ : List ℤ) (r : Reply) → Given (take (4 * f .clocks) t) (take (f .clocks) ss) (take (2 * f .links) es) x l r x′ l′ → WorksOut s x l r x′ l′
+    unfolding workedOf
+    out-given x x′ l l′ r g =
+        let d = g o c table-is states links-is in
+        record { reply-is = rw read (d .0); clocks-are = rw read (d .1); links-are = rw read (d .2) }
 
-    rows-written : rowsIn (nodesIn (take (4 * f .clocks) t)) (take (f .clocks) ss) written ≡ rowsOf o
-    unfolding written
-    rows-written = rw (there, table-is, states) (rows-are o (o .sheet .links))
+-- ---- what is given: by the room that was lent
+module _ (t : List ℤ) (ss es : List ℕ) (n : ℕ) (ready : Ready t ss es n) (x l : List ℤ) where
+  given-by : (r : Reply) (x′ l′ : List ℤ)
+      → ((o : Opened) → nodesIn t ≡ o .table → ss ≡ map stateOfClock (o .sheet .clocks) → linksOf es ≡ o .sheet .links → length ss ≡ length (o .table) → n ≡ length (o .sheet .links)
+      → (c : ℕ) → (X : Read Opened) × (roomFor (length x) (length l) o c ≡ X) × (r ≡ replyOf X) × (x′ ≡ clocksOut X x) × (l′ ≡ linksOut X l))
+      → Given t ss es x l r x′ l′
+  given-by r x′ l′ go o c nodes states links =
+      let many : length ss ≡ length (o .table) = omega (arith, nodes-many t, ready .many, ap length nodes) in
+      let few : n ≡ length (o .sheet .links) = sym (links-many n es (ready .pairs)) ∙ ap length links in
+      let w = go o nodes states links many few c in
+      rw (w .1) (w .2, w .3, w .4)
 
-    pub out-done :
-        (rooms : Rooms) (x x′ l l′ : List ℤ) →
-        4 * f .clocks ≤ length x →
-        3 * f .links ≤ length l →
-        x′ ≡ take (4 * f .clocks) t ++ drop (length (take (4 * f .clocks) t)) x →
-        rooms ≡ roomsOf (nodesIn (take (4 * f .clocks) t)) (take (f .clocks) ss) (linksFrom s (length (take (f .clocks) ss)) (f .links) (f .linkrows)) →
-        l′ ≡ rowsFrom (nodesIn (take (4 * f .clocks) t)) (take (f .clocks) ss) (linksFrom s (length (take (f .clocks) ss)) (f .links) (f .linkrows)) ++ drop (3 * f .links) l →
-        WorksOut s x l (record { number = 0; place = 0; clocks = f .clocks; links = f .links; opened = rooms .opened; whole = rooms .whole }) x′ l′
-    unfolding openRoom wholeRoom written
-    out-done rooms x x′ l l′ h k p q r =
-        let e : workedOf s (length x) (length l) ≡ got o c = enough s (length x) (length l) o c read f f-is h k in
-        record {
-          reply-is = rw e reply;
-          clocks-are =
-              rw e
-              (p ∙ ap₂ (λ (y : List ℤ) (i : ℕ). y ++ drop i x) nodes (nodes-many ∙ ap (λ (i : ℕ). 4 * i) (sym (clocks-are o f f-is))));
-          links-are =
-              rw e
-              (r ∙ ap₂ (λ (rs : List Row) (i : ℕ). flatRows rs ++ drop (3 * i) l) rows-written (sym (links-are o f f-is)));
-        }
-      where
-        opened : rooms .opened ≡ openRoom o
-        opened = ap (λ (y : Rooms). y .opened) q ∙ ap (λ (rs : List Row). total (map openSizeOf rs)) rows-written
+  -- too little for the clocks
+  pub short-clocks : (r : Reply) → length x < 4 * length ss → r ≡ refusalOf shortResult 0 → Given t ss es x l r x l
+  short-clocks r h e =
+      given-by r x l λ o nodes states links many few c.
+      (refused shortResult 0, rw (lt-leb (4 * length (o .table)) (length x) (omega (arith, many))), e, refl, refl)
 
-        whole : rooms .whole ≡ wholeRoom o
-        whole = ap (λ (y : Rooms). y .whole) q ∙ ap (λ (rs : List Row). total (map sizeOfRow rs)) rows-written
+  module _ (fits : 4 * length ss ≤ length x) where
+    -- too little for the links
+    pub short-links : (r : Reply) → length l < 3 * n → r ≡ refusalOf shortResult 0 → Given t ss es x l r x l
+    short-links r h e =
+        given-by r x l λ o nodes states links many few c.
+        (refused shortResult 0, rw (le-leb (4 * length (o .table)) (length x) (omega (arith, many)), lt-leb (3 * length (o .sheet .links)) (length l) (omega (arith, few))), e, refl, refl)
 
-        reply : _≡_ {A = Reply} (record { number = 0; place = 0; clocks = f .clocks; links = f .links; opened = rooms .opened; whole = rooms .whole })
-            (record { number = 0; place = 0; clocks = length (o .table); links = length (o .sheet .links); opened = openRoom o; whole = wholeRoom o })
-        reply = λ i. record { number = 0; place = 0; clocks = sym (clocks-are o f f-is) i; links = sym (links-are o f f-is) i; opened = opened i; whole = whole i }
+    pub given-whole : 3 * n ≤ length l → (q : Rooms) (x′ l′ : List ℤ)
+        → x′ ≡ flatten clockNumbers (nodesIn t) ++ drop (4 * length ss) x
+        → q ≡ roomsOver (rowsIn (nodesIn t) ss (linksOf es))
+        → l′ ≡ flatten linkNumbers (rowsIn (nodesIn t) ss (linksOf es)) ++ drop (3 * n) l
+        → Given t ss es x l (record { number = 0; place = 0; clocks = length ss; links = n; opened = q .opened; whole = q .whole }) x′ l′
+    unfolding openRoom wholeRoom
+    given-whole h q x′ l′ p e d =
+        given-by _ x′ l′ λ o nodes states links many few c.
+        let rows : rowsIn (nodesIn t) ss (linksOf es) ≡ rowsOf o = rw (nodes, states, links) (rows-are o (o .sheet .links)) in
+        let sums : q ≡ roomsOver (rowsOf o) = e ∙ ap roomsOver rows in (
+          got o c,
+          rw (le-leb (4 * length (o .table)) (length x) (omega (arith, many)), le-leb (3 * length (o .sheet .links)) (length l) (omega (arith, few))),
+          λ i. record { number = 0; place = 0; clocks = many i; links = few i; opened = sums i .opened; whole = sums i .whole },
+          p ∙ ap₂ (λ (ys : List Node) (k : ℕ). flatten clockNumbers ys ++ drop (4 * k) x) nodes many,
+          d ∙ ap₂ (λ (rs : List Row) (k : ℕ). flatten linkNumbers rs ++ drop (3 * k) l) rows few,
+        )

@@ -16,7 +16,7 @@ use Rattle.expression.specs.Expression.{Word, Clock, spellWord, spellClock}
 use Rattle.expression.specs.Evaluate.{wordNode, wordNodes, Worked}
 use Rattle.expression.specs.Spelled.{indexes}
 use Rattle.sheet.specs.Sheet.{Sheet, wordsMost, clocksMost, linksMost, bytesMost, spellLink, rows, section, spellSheet, Every, Each, WordRow, ClockRow, LinkRow, Legal}
-use Rattle.sheet.specs.Reader.{sectionAt, wordAt, clockAt, linkAt, readFrom, readSheet}
+use Rattle.sheet.specs.Reader.{sectionAt, wordAt, clockAt, linkAt, linksOn, clocksOn, readFrom, readSheet}
 use Rattle.sheet.specs.Opened.{ClockNode, clockOf, nodeOfClock, Opened}
 use Rattle.sheet.proofs.Format.{short-enough, ended}
 use Rattle.sheet.proofs.Rows.{same-got, each-every, every-each, section-reads, section-read}
@@ -47,7 +47,7 @@ pub record Opens (s : List ℕ) (o : Opened) (c : ℕ) : Type 0 where
 
 module _ (s : List ℕ) (bytes : AllBytes s) where
   reads-from : (o : Opened) (c : ℕ) → length s ≤ bytesMost → readFrom 0 s ≡ got o c → Opens s o c
-  unfolding readFrom spellSheet
+  unfolding readFrom clocksOn linksOn spellSheet
   reads-from o c most h =
       let r₁ = through (sectionAt (λ xs a. wordAt s a) wordsMost s 0) _ o c h in
       let ws : List Node = wordNodes (r₁ .0) in
@@ -99,7 +99,7 @@ module _ (s : List ℕ) (words : List Word) (most : length words ≤ wordsMost) 
 
   rows-to-links : (zs : List ClockNode) (d a b : ℕ) → length zs ≤ clocksMost → Each (ClockMade (wordNodes words)) [] zs → Bytes s d (section spellWord words) a → Bytes s a (section spellRow zs) b
       → readFrom d s ≡ lastly s words (map clockOf zs) (map nodeOfClock zs) b
-  unfolding readFrom
+  unfolding readFrom clocksOn linksOn
   rows-to-links zs d a b hz lz bw bz =
       let n : length (map clockOf zs) ≡ length zs = length-map zs clockOf in
       let f : sectionAt (clockAt s (wordNodes words)) clocksMost s a ≡ got zs b =

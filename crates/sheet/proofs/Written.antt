@@ -1,28 +1,27 @@
--- Links that are read in a loop, whose rows are written one after another and whose sizes are summed up.
+-- Links that a loop goes over: their sizes are summed up, and their rows written one after another.
 -- Assumes nothing.
 use mathlib.Core.Path.{_≡_, refl, sym, ap, ap₂, _∙_, subst}
-use mathlib.Core.List.{List, [], _∷_, _++_, map}
+use mathlib.Core.List.{List, [], _∷_, _++_, map, append-nil, append-assoc}
 use Prim.Native.Nat.{ℕ, _+_, _*_, _≤_, _<_}
+use native.Mathlib.Nat.{mul-zero, mul-suc}
+use native.Mathlib.Numerals.{add-one}
 use native.Mathlib.Omega.{arith}
-use lib.IntN.{ℤ, pos}
+use lib.IntN.{ℤ}
 use lib.ListN.{length, take, drop, length-append, take-append-drop}
-use lib.Seq.{sets, sets-eq, take-at, drop-at, drop-drop, length-take-le}
-use Rattle.field.specs.Read.{Read.got}
+use lib.Seq.{sets, sets-eq, take-at, drop-at, drop-drop, length-take-le, take-all}
 use Rattle.envelope.specs.declared.Node.{Node}
 use Rattle.link.specs.declared.Row.{Row}
-use Rattle.link.specs.Link.{numberOf, sizeIn, openSizeOf}
+use Rattle.link.specs.Link.{openSizeOf}
 use Rattle.expression.specs.Inner.Nodes.{AllTaken}
 use Rattle.sheet.specs.declared.Rooms.{Rooms}
 use Rattle.sheet.specs.Sheet.{Link}
-use Rattle.sheet.specs.Reader.{linkAt}
 use Rattle.sheet.specs.Rooms.{total, sizeOfRow}
-use Rattle.sheet.specs.WorkOut.{flatRow, flatRows}
-use Rattle.sheet.specs.Inner.Sections.{rowAt, rowsIn, linksFrom, roomsOf, rowsFrom}
-use Rattle.sheet.proofs.Readings.{Reached, reached-none, reached-more, reached-all}
+use Rattle.sheet.specs.WorkOut.{flatten}
+use Rattle.sheet.specs.Inner.Sections.{rowAt, rowsIn, roomsOver, roomsWith}
 use Rattle.sheet.proofs.NodeTables.{map-more}
 use Rattle.sheet.proofs.LinkRows.{row-small, open-most}
 
--- ---- sums and rows, one more
+-- ---- sums, with one more
 total-more : (xs : List ℕ) (x : ℕ) → total (xs ++ (x ∷ [])) ≡ total xs + x
 unfolding total
 total-more [] x = omega arith
@@ -31,95 +30,80 @@ total-more (y ∷ xs) x = omega (arith, total-more xs x)
 sum-more : (f : Row → ℕ) (rs : List Row) (r : Row) → total (map f (rs ++ (r ∷ []))) ≡ total (map f rs) + f r
 sum-more f rs r = ap total (map-more f rs r) ∙ total-more (map f rs) (f r)
 
-flat-more : (rs : List Row) (r : Row) → flatRows (rs ++ (r ∷ [])) ≡ flatRows rs ++ flatRow r
-unfolding flatRows
-flat-more [] r = refl
-flat-more (q ∷ rs) r = ap {B = List ℤ} (λ l. pos (numberOf (q .verdict)) ∷ (pos (sizeIn (q .verdict)) ∷ (pos (q .state) ∷ l))) (flat-more rs r)
+-- ---- numbers of so many for each, written one after another over o: those of i are there, and what follows is as it was
+module _ {A : Type 0} (f : A → List ℤ) (w : ℕ) (wide : (x : A) → length (f x) ≡ w) (o : List ℤ) where
+  flatten-more : (xs : List A) (x : A) → flatten f (xs ++ (x ∷ [])) ≡ flatten f xs ++ f x
+  unfolding flatten
+  flatten-more [] x = append-nil (f x)
+  flatten-more (y ∷ xs) x = ap (λ (l : List ℤ). f y ++ l) (flatten-more xs x) ∙ sym (append-assoc (f y) (flatten f xs) (f x))
 
-drop-three : (i : ℕ) (l : List ℤ) → drop (3 * (i + 1)) l ≡ drop 3 (drop (3 * i) l)
-drop-three i l =
-    let e : 3 * (i + 1) ≡ 3 * i + 3 = omega arith in
-    ap (λ (k : ℕ). drop k l) e ∙ sym (drop-drop 3 (3 * i) l)
+  pub flatten-length : (xs : List A) → length (flatten f xs) ≡ w * length xs
+  unfolding flatten
+  flatten-length [] = sym (mul-zero w)
+  flatten-length (x ∷ xs) = length-append (f x) (flatten f xs) ∙ ap₂ (λ (a b : ℕ). a + b) (wide x) (flatten-length xs) ∙ omega (arith, mul-suc w (length xs))
 
--- ---- a row stored after i others, where what follows is as it was
-module _ (l o : List ℤ) (i : ℕ) (rs : List Row) (r : Row) (room : 3 * i + 2 < length l) where
-  front-length : length (take (3 * i) l ++ flatRow r) ≡ 3 * (i + 1)
-  front-length = simp (length-append, length-take-le (3 * i) l (omega arith)) (omega arith)
+  pub record Written (i : ℕ) (xs : List A) (l : List ℤ) : Type 0 where
+    pub front : take (w * i) l ≡ flatten f xs
+    pub back : drop (w * i) l ≡ drop (w * i) o
 
-  front-more : take (3 * i) l ≡ flatRows rs → take (3 * (i + 1)) (sets l (3 * i) (flatRow r)) ≡ flatRows (rs ++ (r ∷ []))
-  front-more p =
-      rw (sets-eq (flatRow r) l (3 * i) (omega arith))
-      (take-at (take (3 * i) l ++ flatRow r) _ (3 * (i + 1)) front-length ∙ rw p (sym (flat-more rs r)))
+  pub written-none : Written 0 [] o
+  unfolding flatten
+  written-none = record { front = ap (λ (k : ℕ). take k o) (mul-zero w); back = refl }
 
-  back-more : drop (3 * i) l ≡ drop (3 * i) o → drop (3 * (i + 1)) (sets l (3 * i) (flatRow r)) ≡ drop (3 * (i + 1)) o
-  back-more p =
-      let wide : 3 * i + 3 ≡ 3 * (i + 1) = omega arith in
-      rw (sets-eq (flatRow r) l (3 * i) (omega arith))
-      (drop-at (take (3 * i) l ++ flatRow r) _ (3 * (i + 1)) front-length
-      ∙ ap (λ (x : ℕ). drop x l) wide
-      ∙ drop-three i l
-      ∙ ap (drop 3) p
-      ∙ sym (drop-three i o))
-
--- ---- a loop over n links: i of them are written
-module _ (s : List ℕ) (xs : List Node) (ss : List ℕ) (m n : ℕ) (o : List ℤ) (a₀ : ℕ) where
-  pub record Written (i : ℕ) (l : List ℤ) (a opened whole : ℕ) : Type 0 where
-    pub on : Reached (linkAt s m) n i a₀ a
-    pub front : take (3 * i) l ≡ flatRows (rowsIn xs ss (on .so-far))
-    pub back : drop (3 * i) l ≡ drop (3 * i) o
-    pub open-is : opened ≡ total (map openSizeOf (rowsIn xs ss (on .so-far)))
-    pub whole-is : whole ≡ total (map sizeOfRow (rowsIn xs ss (on .so-far)))
-    pub whole-few : whole ≤ 3000000000 * i
-    pub open-few : opened ≤ 3000000000 * i
-
-  module _ (i : ℕ) (l : List ℤ) (a opened whole : ℕ) (w : Written i l a opened whole) where
-    pub written-more :
-        i < n →
-        AllTaken xs →
-        (k : Link) (c : ℕ) (l′ : List ℤ) (r : Row) (x y : ℕ) →
-        3 * i + 2 < length l →
-        linkAt s m (w .on .so-far) a ≡ got k c →
-        r ≡ rowAt xs ss (k .producer) (k .consumer) →
-        y ≡ sizeOfRow r →
-        x ≡ openSizeOf r →
-        l′ ≡ sets l (3 * i) (flatRow r) →
-        Written (i + 1) l′ c (opened + x) (whole + y)
-    unfolding reached-more
-    written-more more t k c l′ r x y room p e q h v =
-        let f : Link → Row = λ l. rowAt xs ss (l .producer) (l .consumer) in
-        let ls : List Link = w .on .so-far in
-        let rs : List Row = rowsIn xs ss ls in
-        let added : rowsIn xs ss (ls ++ (k ∷ [])) ≡ rs ++ (r ∷ []) = map-more f ls k ∙ ap (λ (q : Row). rs ++ (q ∷ [])) (sym e) in
-        let few : sizeOfRow r ≤ 3000000000 = subst (λ (q : Row). sizeOfRow q ≤ 3000000000) (sym e) (row-small xs t k) in
-        record {
-          on = reached-more (linkAt s m) n i a₀ a (w .on) more k c p;
-          front = rw (added, v) (front-more l o i rs r room (w .front));
-          back = rw v (back-more l o i rs r room (w .back));
-          open-is = rw (added, sum-more openSizeOf rs r) (ap₂ (λ (x y : ℕ). x + y) (w .open-is) h);
-          whole-is = rw (added, sum-more sizeOfRow rs r) (ap₂ (λ (x y : ℕ). x + y) (w .whole-is) q);
-          whole-few = omega (arith, w .whole-few, few, q);
-          open-few = omega (arith, w .open-few, few, h, open-most r);
-        }
-
-    pub written-all : i ≡ n
-        → (_≡_ {A = Rooms} (record { opened = opened; whole = whole }) (roomsOf xs ss (linksFrom s m n a₀)))
-        × (l ≡ rowsFrom xs ss (linksFrom s m n a₀) ++ drop (3 * n) o)
-    written-all e =
-        rw (reached-all (linkAt s m) n i a₀ a (w .on) e)
-        (rooms, sym (take-append-drop (3 * i) l) ∙ ap₂ (λ (x y : List ℤ). x ++ y) (w .front) (w .back ∙ ap (λ (x : ℕ). drop (3 * x) o) e))
-      where
-        rooms : _≡_ {A = Rooms} (record { opened = opened; whole = whole }) (roomsOf xs ss (w .on .so-far))
-        rooms = λ j. record { opened = w .open-is j; whole = w .whole-is j }
-
-  pub written-none : Written 0 o a₀ 0 0
-  unfolding flatRows total reached-none
-  written-none =
+  pub written-more : (i : ℕ) (xs : List A) (l l′ : List ℤ) → Written i xs l → (x : A) → w * i + w ≤ length l → l′ ≡ sets l (w * i) (f x) → Written (i + 1) (xs ++ (x ∷ [])) l′
+  written-more i xs l l′ h x room e =
+      let next : w * (i + 1) ≡ w * i + w = rw add-one (mul-suc w i ∙ omega arith) in
+      let lead : length (take (w * i) l ++ f x) ≡ w * i + w = length-append (take (w * i) l) (f x) ∙ ap₂ (λ (a b : ℕ). a + b) (length-take-le (w * i) l (omega arith)) (wide x) in
+      let is : l′ ≡ (take (w * i) l ++ f x) ++ drop (w * i + length (f x)) l = e ∙ sets-eq (f x) l (w * i) (omega (arith, wide x)) in
       record {
-        on = reached-none (linkAt s m) n a₀;
-        front = refl;
-        back = refl;
-        open-is = refl;
-        whole-is = refl;
-        whole-few = omega arith;
-        open-few = omega arith;
+        front = rw (next, is) (take-at (take (w * i) l ++ f x) _ (w * i + w) lead ∙ ap (λ (y : List ℤ). y ++ f x) (h .front) ∙ sym (flatten-more xs x));
+        back =
+            rw (next, is)
+            (drop-at (take (w * i) l ++ f x) _ (w * i + w) lead
+            ∙ ap (λ (k : ℕ). drop (w * i + k) l) (wide x)
+            ∙ sym (drop-drop w (w * i) l)
+            ∙ ap (drop w) (h .back)
+            ∙ drop-drop w (w * i) o);
       }
+
+  pub written-all : (i : ℕ) (xs : List A) (l : List ℤ) → Written i xs l → l ≡ flatten f xs ++ drop (w * i) o
+  written-all i xs l h = sym (take-append-drop (w * i) l) ∙ ap₂ (λ (x y : List ℤ). x ++ y) (h .front) (h .back)
+
+-- ---- a loop over the links ls: i of them are summed up
+module _ (xs : List Node) (ss : List ℕ) (ls : List Link) where
+  abbrev pub rowsTo : ℕ → List Row
+  rowsTo i = rowsIn xs ss (take i ls)
+
+  pub record Summed (i : ℕ) (q : Rooms) : Type 0 where
+    pub sums : q ≡ roomsOver (rowsTo i)
+    pub open-few : q .opened ≤ 3000000000 * i
+    pub whole-few : q .whole ≤ 3000000000 * i
+
+  pub summed-none : Summed 0 (roomsOver [])
+  unfolding total
+  summed-none = record { sums = refl; open-few = omega arith; whole-few = omega arith }
+
+  -- the rows, with one more
+  pub rows-more : (i : ℕ) (k : Link) (r : Row) → take (i + 1) ls ≡ take i ls ++ (k ∷ []) → r ≡ rowAt xs ss k → rowsTo (i + 1) ≡ rowsTo i ++ (r ∷ [])
+  rows-more i k r p e = ap (rowsIn xs ss) p ∙ map-more (rowAt xs ss) (take i ls) k ∙ ap (λ (q : Row). rowsTo i ++ (q ∷ [])) (sym e)
+
+  pub row-few : AllTaken xs → (k : Link) (r : Row) → r ≡ rowAt xs ss k → sizeOfRow r ≤ 3000000000
+  row-few t k r e = subst (λ (q : Row). sizeOfRow q ≤ 3000000000) (sym e) (row-small xs t k)
+
+  pub summed-more : (i : ℕ) (q q′ : Rooms) → Summed i q → AllTaken xs → (k : Link) (r : Row) → take (i + 1) ls ≡ take i ls ++ (k ∷ []) → r ≡ rowAt xs ss k → q′ ≡ roomsWith q r
+      → Summed (i + 1) q′
+  summed-more i q q′ h t k r p e w =
+      let few = row-few t k r e in
+      let opens : q .opened + openSizeOf r ≡ total (map openSizeOf (rowsTo (i + 1))) =
+      ap (λ (y : Rooms). y .opened + openSizeOf r) (h .sums) ∙ sym (sum-more openSizeOf (rowsTo i) r) ∙ ap (λ (rs : List Row). total (map openSizeOf rs)) (sym (rows-more i k r p e)) in
+      let wholes : q .whole + sizeOfRow r ≡ total (map sizeOfRow (rowsTo (i + 1))) =
+      ap (λ (y : Rooms). y .whole + sizeOfRow r) (h .sums) ∙ sym (sum-more sizeOfRow (rowsTo i) r) ∙ ap (λ (rs : List Row). total (map sizeOfRow rs)) (sym (rows-more i k r p e)) in
+      rw w
+      (record {
+        sums = λ j. record { opened = opens j; whole = wholes j };
+        open-few = omega (arith, h .open-few, few, open-most r);
+        whole-few = omega (arith, h .whole-few, few);
+      })
+
+  pub rows-all : (i : ℕ) → length ls ≡ i → rowsTo i ≡ rowsIn xs ss ls
+  rows-all i e = ap (rowsIn xs ss) (take-all i ls (omega (arith, e)))

@@ -52,15 +52,23 @@ linkAt s n xs a =
     bind (fieldIn 2 0 n absent s c) λ q d.
     got (record { producer = p; consumer = q }) d
 
+-- the words, the clocks' rows and the links, as a sheet
+abbrev pub openedOf : List Word → List ClockNode → List Link → Opened
+openedOf ws rows ls = record { sheet = record { words = ws; clocks = map clockOf rows; links = ls }; table = map nodeOfClock rows }
+
+-- the links and the end, from a on: after the words ws and the clocks of rows
+unfoldable pub linksOn : List ℕ → List Word → List ClockNode → ℕ → Read Opened
+linksOn s ws rows a =
+    bind (sectionAt (linkAt s (length rows)) linksMost s a) λ ls c.
+    cond (eqb c (length s)) (got (openedOf ws rows ls) c) (refused trailing c)
+
+-- the clocks and what follows them
+unfoldable pub clocksOn : List ℕ → List Word → ℕ → Read Opened
+clocksOn s ws a = bind (sectionAt (clockAt s (wordNodes ws)) clocksMost s a) λ rows c. linksOn s ws rows c
+
 -- the sections, from a on
 unfoldable pub readFrom : ℕ → List ℕ → Read Opened
-readFrom a s =
-    bind (sectionAt (λ xs a. wordAt s a) wordsMost s a) λ ws b.
-    bind (sectionAt (clockAt s (wordNodes ws)) clocksMost s b) λ rows c.
-    bind (sectionAt (linkAt s (length rows)) linksMost s c) λ ls d.
-    cond (eqb d (length s))
-    (got (record { sheet = record { words = ws; clocks = map clockOf rows; links = ls }; table = map nodeOfClock rows }) d)
-    (refused trailing d)
+readFrom a s = bind (sectionAt (λ xs a. wordAt s a) wordsMost s a) λ ws c. clocksOn s ws c
 
 -- "Length is tested first. Then the sheet is read left to right and the first fault is given."
 unfoldable pub readSheet : List ℕ → Read Opened

@@ -9,13 +9,13 @@ ghost use Rattle.link.specs.Link.{sizeIn};
 ghost use Rattle.field.specs.Read.{mapped};
 ghost use Rattle.expression.specs.Reader.{valueOf};
 ghost use Rattle.expression.specs.Evaluate.{wordNode};
-ghost use Rattle.expression.specs.Table.{flats};
 ghost use Rattle.expression.specs.Inner.Nodes.{Holds, nodesIn};
+ghost use Rattle.envelope.specs.Envelope.{Taken};
 ghost use Rattle.envelope.specs.Word.{onesIn};
 ghost use Rattle.sheet.specs.Sheet.{clocksMost, linksMost};
 ghost use Rattle.sheet.specs.Reader.{rowsAt, sectionAt, bitsAt, wordAt, clockAt, linkAt, readSheet};
-ghost use Rattle.sheet.specs.WorkOut.{refusalOf, flatRow, WorksOut};
-ghost use Rattle.sheet.specs.Inner.Sections.{WordRows, ClockRows, markedOf, markedAt, endsOf, wordBits, refusedOf, readingOf, Tabled, rowAt, Ready, linksFrom, roomsOf, rowsFrom};
+ghost use Rattle.sheet.specs.WorkOut.{refusalOf, clockNumbers, linkNumbers, flatten, WorksOut};
+ghost use Rattle.sheet.specs.Inner.Sections.{WordRows, ClockRows, markedOf, markedAt, endsOf, wordBits, readingOf, Tabled, rowAt, Ready, LinkRows, linksOf, ToEnd, FromClocks, linkIn, rowsIn, roomsOver, roomsWith, Given};
 use envelope::Envelope;
 use envelope::Node;
 use expression::Value;
@@ -34,6 +34,11 @@ pub const WORDS_MOST: usize = 64;
 pub const CLOCKS_MOST: usize = 128;
 
 pub const LINKS_MOST: usize = 256;
+
+// Numbers per clock, and per link, in the slices that callers lend.
+const PER_CLOCK: usize = 4;
+
+const PER_LINK: usize = 3;
 
 // The longest prefix and the longest period.
 pub const BITS_MOST: usize = 64;
@@ -172,14 +177,31 @@ fn clock_rows(
     Field::Got(n, c)
 }
 
+// The clocks section: how many clocks there are, and the cursor past them; their nodes are left in `table`, their states in `states`.
+fn read_clocks(
+    start: Cursor,
+    s: &[u8],
+    words: &[i32],
+    table: &mut [i32],
+    states: &mut [u8],
+) -> Field
+    requires { ⌜ (length (now table) ≡ 512) × (length (now states) ≡ 128) × Holds (now words) ⌝ }
+    ensures { λ r. ⌜ ClockRows (sectionAt (clockAt (now (s .entry)) (nodesIn (now (words .entry)))) clocksMost (now (s .entry)) (start .at)) r (now (table .exit)) (now (states .exit)) ⌝ }
+{
+    match start.within(s, 2, 0, CLOCKS_MOST + 1, reply::BEYOND) {
+        Field::Refused(number, place) => Field::Refused(number, place),
+        Field::Got(n, c) => clock_rows(c, s, words, n, table, states),
+    }
+}
+
 // A link's ends and the cursor past it; or a refusal's number and place.
-pub enum Ends {
+enum Ends {
     Got(usize, usize, Cursor),
     Refused(u8, usize),
 }
 
 // A link between two of n clocks.
-pub fn link_ends(start: Cursor, s: &[u8], n: usize) -> Ends
+fn link_ends(start: Cursor, s: &[u8], n: usize) -> Ends
     ensures { λ r. ⌜ endsOf r ≡ linkAt (now (s .entry)) n [] (start .at) ⌝ }
 {
     match start.within(s, 2, 0, n, reply::ABSENT) {
@@ -191,9 +213,10 @@ pub fn link_ends(start: Cursor, s: &[u8], n: usize) -> Ends
     }
 }
 
-// The links section: how many links there are between n clocks, and the cursor past them.
-fn read_links(start: Cursor, s: &[u8], n: usize) -> Field
-    ensures { λ r. ⌜ fieldOf r ≡ mapped length (sectionAt (linkAt (now (s .entry)) n) linksMost (now (s .entry)) (start .at)) ⌝ }
+// The links section: how many links there are between n clocks, and the cursor past them; their ends are left in `ends`.
+fn read_links(start: Cursor, s: &[u8], n: usize, ends: &mut [u8]) -> Field
+    requires { ⌜ (length (now ends) ≡ 512) × (n ≤ clocksMost) ⌝ }
+    ensures { λ r. ⌜ LinkRows (sectionAt (linkAt (now (s .entry)) n) linksMost (now (s .entry)) (start .at)) r (now (ends .exit)) ⌝ }
 {
     let f = start.within(s, 2, 0, LINKS_MOST + 1, reply::BEYOND);
     let Field::Got(many, d) = f else {
@@ -206,7 +229,9 @@ fn read_links(start: Cursor, s: &[u8], n: usize) -> Field
             Ends::Refused(number, place) => {
                 return Field::Refused(number, place);
             }
-            Ends::Got(_, _, next) => {
+            Ends::Got(p, q, next) => {
+                ends[2 * i] = p as u8;
+                ends[2 * i + 1] = q as u8;
                 c = next;
             }
         }
@@ -215,12 +240,11 @@ fn read_links(start: Cursor, s: &[u8], n: usize) -> Field
     Field::Got(many, c)
 }
 
-// What a sheet that was read holds: how many clocks and links, and where the rows of each begin.
+// What a sheet that was read holds: how many clocks and links, and where the clocks' rows begin.
 pub struct Found {
     pub clocks: usize,
     pub links: usize,
     pub clockrows: usize,
-    pub linkrows: usize,
 }
 
 pub enum Reading {
@@ -228,77 +252,117 @@ pub enum Reading {
     Refused(u8, usize),
 }
 
-// The reading of a field that is refused.
-fn refused(f: Field) -> Reading
-    ensures { λ r. ⌜ r ≡ refusedOf f ⌝ }
+// The links between m clocks, and nothing after them: their ends are left in `ends`. The clocks' rows begin at `first`.
+fn read_to_end(first: usize, start: Cursor, s: &[u8], m: usize, ends: &mut [u8]) -> Reading
+    requires { ⌜ (length (now ends) ≡ 512) × (m ≤ clocksMost) ⌝ }
+    ensures { λ r. ⌜ ToEnd (now (s .entry)) first (start .at) m r (now (ends .exit)) ⌝ }
 {
-    match f {
+    match read_links(start, s, m, ends) {
         Field::Refused(number, place) => Reading::Refused(number, place),
-        Field::Got(_, _) => Reading::Refused(0, 0),
+        Field::Got(n, c) => {
+            let past = c.at;
+            if past != s.len() {
+                return Reading::Refused(reply::TRAILING, past);
+            }
+            Reading::Whole(Found {
+                clocks: m,
+                links: n,
+                clockrows: first,
+            })
+        }
     }
 }
 
-// Reads a whole sheet: its clocks' nodes are left in `table`, their states in `states`.
-pub fn read(s: &[u8], table: &mut [i32], states: &mut [u8]) -> Reading
-    requires { ⌜ (length (now table) ≡ 512) × (length (now states) ≡ 128) ⌝ }
+// The clocks over the words' nodes, and what follows them: each is left in its table.
+fn read_from_clocks(
+    start: Cursor,
+    s: &[u8],
+    words: &[i32],
+    table: &mut [i32],
+    states: &mut [u8],
+    ends: &mut [u8],
+) -> Reading
+    requires { ⌜ (length (now table) ≡ 512) × (length (now states) ≡ 128) × (length (now ends) ≡ 512) × Holds (now words) ⌝ }
+    ensures { λ r. ⌜ FromClocks (now (s .entry)) (start .at) (nodesIn (now (words .entry))) r (now (table .exit)) (now (states .exit)) (now (ends .exit)) ⌝ }
+{
+    match read_clocks(start, s, words, table, states) {
+        Field::Refused(number, place) => Reading::Refused(number, place),
+        Field::Got(m, c) => read_to_end(start.at + 2, c, s, m, ends),
+    }
+}
+
+// Reads a whole sheet: its clocks' nodes are left in `table`, their states in `states`, its links' ends in `ends`.
+pub fn read(s: &[u8], table: &mut [i32], states: &mut [u8], ends: &mut [u8]) -> Reading
+    requires { ⌜ (length (now table) ≡ 512) × (length (now states) ≡ 128) × (length (now ends) ≡ 512) ⌝ }
     ensures found { λ r. ⌜ r ≡ readingOf (readSheet (now (s .entry))) ⌝ }
-    ensures tables { λ _. ⌜ Tabled (readSheet (now (s .entry))) (now (table .exit)) (now (states .exit)) ⌝ }
+    ensures tables { λ _. ⌜ Tabled (readSheet (now (s .entry))) (now (table .exit)) (now (states .exit)) (now (ends .exit)) ⌝ }
 {
     if BYTES_MOST < s.len() {
         return Reading::Refused(reply::BEYOND, BYTES_MOST);
     }
     let mut list = [0i32; 256];
-    let words = read_words(Cursor { at: 0 }, s, &mut list);
-    let Field::Got(w, a) = words else {
-        return refused(words);
-    };
-    let count = a.within(s, 2, 0, CLOCKS_MOST + 1, reply::BEYOND);
-    let Field::Got(m, b) = count else {
-        return refused(count);
-    };
-    let end = 4 * w;
-    let clocks = clock_rows(b, s, &list[..end], m, table, states);
-    let Field::Got(_, c) = clocks else {
-        return refused(clocks);
-    };
-    let links = read_links(c, s, m);
-    let Field::Got(n, d) = links else {
-        return refused(links);
-    };
-    let past = d.at;
-    if past != s.len() {
-        return Reading::Refused(reply::TRAILING, past);
+    match read_words(Cursor { at: 0 }, s, &mut list) {
+        Field::Refused(number, place) => Reading::Refused(number, place),
+        Field::Got(w, c) => {
+            let end = 4 * w;
+            read_from_clocks(c, s, &list[..end], table, states, ends)
+        }
     }
-    Reading::Whole(Found {
-        clocks: m,
-        links: n,
-        clockrows: b.at,
-        linkrows: c.at + 2,
-    })
 }
 
-// The row of a link from clock i to clock j.
-pub fn row(i: usize, j: usize, clocks: &[i32], states: &[u8]) -> Row
-    requires { ⌜ (4 * i + 3 < length (now clocks)) × (4 * j + 3 < length (now clocks)) × (i < length (now states)) × (j < length (now states)) × Holds (now clocks) ⌝ }
-    ensures { λ r. ⌜ r ≡ rowAt (nodesIn (now (clocks .entry))) (now (states .entry)) i j ⌝ }
+// The row of link i, whose ends are in `ends`.
+pub fn row(ends: &[u8], i: usize, clocks: &[i32], states: &[u8]) -> Row
+    requires { ⌜ ((n : ℕ) × (i < n) × Ready (now clocks) (now states) (now ends) n) ⌝ }
+    ensures { λ r. ⌜ r ≡ rowAt (nodesIn (now (clocks .entry))) (now (states .entry)) (linkIn (now (ends .entry)) i) ⌝ }
 {
-    let producer = entry(clocks, i);
-    let consumer = entry(clocks, j);
+    let p = ends[2 * i] as usize;
+    let q = ends[2 * i + 1] as usize;
+    let producer = entry(clocks, p);
+    let consumer = entry(clocks, q);
     let verdict = judge(producer.envelope, consumer.envelope);
     Row {
-        producer: i,
-        consumer: j,
-        state: link::state_of(states[i], states[j]),
+        producer: p,
+        consumer: q,
+        state: link::state_of(states[p], states[q]),
         verdict,
     }
 }
 
-// Verdict, size and state, stored at index i.
+// k, K, l and n, stored for clock i.
+fn store_clock(x: Node, list: &mut [i64], i: usize)
+    requires { ⌜ (4 * i + 3 < length (now list)) × Taken (x .envelope) ⌝ }
+    ensures { λ _. ⌜ now (list .exit) ≡ sets (now (list .entry)) (4 * i) (clockNumbers x) ⌝ }
+{
+    let e = x.envelope;
+    let at = PER_CLOCK * i;
+    let k = e.k;
+    let top = e.K;
+    let l = e.l as i64;
+    let n = e.n as i64;
+    list[at] = k;
+    list[at + 1] = top;
+    list[at + 2] = l;
+    list[at + 3] = n;
+}
+
+// The numbers of m clocks are left in `list`.
+fn fill_clocks(table: &[i32], m: usize, list: &mut [i64])
+    requires { ⌜ Holds (now table) × (length (now table) ≡ 4 * m) × (m ≤ clocksMost) × (4 * m ≤ length (now list)) ⌝ }
+    ensures { λ _. ⌜ now (list .exit) ≡ flatten clockNumbers (nodesIn (now (table .entry))) ++ drop (4 * m) (now (list .entry)) ⌝ }
+{
+    let mut i: usize = 0;
+    while i < m {
+        store_clock(entry(table, i), list, i);
+        i += 1;
+    }
+}
+
+// Verdict, size and state, stored for link i.
 fn store_row(r: Row, list: &mut [i64], i: usize)
     requires { ⌜ (3 * i + 2 < length (now list)) × (sizeIn (r .verdict) ≤ 3000000000) ⌝ }
-    ensures { λ _. ⌜ now (list .exit) ≡ sets (now (list .entry)) (3 * i) (flatRow r) ⌝ }
+    ensures { λ _. ⌜ now (list .exit) ≡ sets (now (list .entry)) (3 * i) (linkNumbers r) ⌝ }
 {
-    let at = 3 * i;
+    let at = PER_LINK * i;
     let v = r.verdict;
     let number = v.number() as i64;
     let size = v.size() as i64;
@@ -314,34 +378,44 @@ pub struct Rooms {
     pub whole: u64,
 }
 
-// n links, which have been read before: their rows are left in `list`.
-fn fill(start: Cursor, s: &[u8], clocks: &[i32], states: &[u8], n: usize, list: &mut [i64]) -> Rooms
-    requires { ⌜ Ready (now s) (now clocks) (now states) n (length (now list)) (start .at) ⌝ }
-    ensures rooms { λ r. ⌜ r ≡ roomsOf (nodesIn (now (clocks .entry))) (now (states .entry)) (linksFrom (now (s .entry)) (length (now (states .entry))) n (start .at)) ⌝ }
-    ensures rows { λ _. ⌜ now (list .exit) ≡ rowsFrom (nodesIn (now (clocks .entry))) (now (states .entry)) (linksFrom (now (s .entry)) (length (now (states .entry))) n (start .at)) ++ drop (3 * n) (now (list .entry)) ⌝ }
-{
-    let m = states.len();
-    let mut c = start;
-    let mut i: usize = 0;
-    let mut opened: u64 = 0;
-    let mut whole: u64 = 0;
-    while i < n {
-        match link_ends(c, s, m) {
-            Ends::Refused(_, _) => {
-                return Rooms { opened, whole };
-            }
-            Ends::Got(p, q, next) => {
-                let r = row(p, q, clocks, states);
-                store_row(r, list, i);
-                let v = r.verdict;
-                whole += v.size();
-                opened += r.open_size();
-                c = next;
-            }
+impl Rooms {
+    pub fn none() -> Rooms
+        ensures { λ r. ⌜ r ≡ roomsOver [] ⌝ }
+    {
+        Rooms {
+            opened: 0,
+            whole: 0,
         }
+    }
+
+    // With one link more.
+    pub fn plus(self, r: Row) -> Rooms
+        requires { ⌜ (sizeIn (r .verdict) ≤ 3000000000) × (self .opened ≤ 768000000000) × (self .whole ≤ 768000000000) ⌝ }
+        ensures { λ q. ⌜ q ≡ roomsWith self r ⌝ }
+    {
+        let v = r.verdict;
+        Rooms {
+            opened: self.opened + r.open_size(),
+            whole: self.whole + v.size(),
+        }
+    }
+}
+
+// The rows of n links, whose ends are in `ends`, are left in `list`.
+fn fill_links(clocks: &[i32], states: &[u8], ends: &[u8], n: usize, list: &mut [i64]) -> Rooms
+    requires { ⌜ Ready (now clocks) (now states) (now ends) n × (3 * n ≤ length (now list)) ⌝ }
+    ensures rooms { λ r. ⌜ r ≡ roomsOver (rowsIn (nodesIn (now (clocks .entry))) (now (states .entry)) (linksOf (now (ends .entry)))) ⌝ }
+    ensures rows { λ _. ⌜ now (list .exit) ≡ flatten linkNumbers (rowsIn (nodesIn (now (clocks .entry))) (now (states .entry)) (linksOf (now (ends .entry)))) ++ drop (3 * n) (now (list .entry)) ⌝ }
+{
+    let mut i: usize = 0;
+    let mut rooms = Rooms::none();
+    while i < n {
+        let r = row(ends, i, clocks, states);
+        store_row(r, list, i);
+        rooms = rooms.plus(r);
         i += 1;
     }
-    Rooms { opened, whole }
+    rooms
 }
 
 // What working a sheet out answers: a refusal's number and place, or 0 and 0, both counts and both rooms.
@@ -367,15 +441,34 @@ fn refuse(number: u8, place: usize) -> Reply
     }
 }
 
-// The first numbers of `to` become those of `from`.
-fn copy(from: &[i32], to: &mut [i64])
-    requires { ⌜ length (now from) ≤ length (now to) ⌝ }
-    ensures { λ _. ⌜ now (to .exit) ≡ now (from .entry) ++ drop (length (now (from .entry))) (now (to .entry)) ⌝ }
+// What a sheet gives that was read into the tables: nothing is written unless both slices are long enough.
+fn give(
+    table: &[i32],
+    states: &[u8],
+    ends: &[u8],
+    n: usize,
+    clocks: &mut [i64],
+    links: &mut [i64],
+) -> Reply
+    requires { ⌜ Ready (now table) (now states) (now ends) n ⌝ }
+    ensures { λ r. ⌜ Given (now (table .entry)) (now (states .entry)) (now (ends .entry)) (now (clocks .entry)) (now (links .entry)) r (now (clocks .exit)) (now (links .exit)) ⌝ }
 {
-    let mut i: usize = 0;
-    while i < from.len() {
-        to[i] = from[i] as i64;
-        i += 1;
+    let m = states.len();
+    if clocks.len() < PER_CLOCK * m {
+        return refuse(reply::SHORT_RESULT, 0);
+    }
+    if links.len() < PER_LINK * n {
+        return refuse(reply::SHORT_RESULT, 0);
+    }
+    fill_clocks(table, m, clocks);
+    let rooms = fill_links(table, states, ends, n, links);
+    Reply {
+        number: 0,
+        place: 0,
+        clocks: m,
+        links: n,
+        opened: rooms.opened,
+        whole: rooms.whole,
     }
 }
 
@@ -385,29 +478,22 @@ pub fn work_out(sheet: &[u8], clocks: &mut [i64], links: &mut [i64]) -> Reply
 {
     let mut table = [0i32; 512];
     let mut states = [0u8; 128];
-    match read(sheet, &mut table, &mut states) {
+    let mut ends = [0u8; 512];
+    match read(sheet, &mut table, &mut states, &mut ends) {
         Reading::Refused(number, place) => refuse(number, place),
         Reading::Whole(f) => {
             let m = f.clocks;
             let n = f.links;
-            let at = f.linkrows;
-            let end = 4 * m;
-            if clocks.len() < end {
-                return refuse(reply::SHORT_RESULT, 0);
-            }
-            if links.len() < 3 * n {
-                return refuse(reply::SHORT_RESULT, 0);
-            }
-            copy(&table[..end], clocks);
-            let rooms = fill(Cursor { at }, sheet, &table[..end], &states[..m], n, links);
-            Reply {
-                number: 0,
-                place: 0,
-                clocks: m,
-                links: n,
-                opened: rooms.opened,
-                whole: rooms.whole,
-            }
+            let nodes = 4 * m;
+            let pairs = 2 * n;
+            give(
+                &table[..nodes],
+                &states[..m],
+                &ends[..pairs],
+                n,
+                clocks,
+                links,
+            )
         }
     }
 }

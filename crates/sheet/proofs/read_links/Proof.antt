@@ -1,73 +1,79 @@
--- `read_links` meets its contract: the links that are left stand at the cursor.
+-- `read_links` meets its contract: the links that are left stand at the cursor, and the ends of the others in the table.
 -- Assumes nothing.
-use mathlib.Core.Path.{_≡_, sym, ap, _∙_}
-use Prim.Native.Nat.{_-_, _≤_}
+use mathlib.Core.Path.{_≡_, refl, sym, ap, _∙_}
+use mathlib.Core.List.{[]}
+use Prim.Native.Nat.{ℕ, _+_, _-_, _≤_, _<_}
 use native.Mathlib.Omega.{arith}
 use borrow.Author.Needs.{needs}
-use Rattle.field.specs.Field.{fieldOf}
+use denote.Ref.{now}
+use lib.ListN.{length, length-set}
+use Rattle.reply.specs.Numbers.{beyond}
+use Rattle.field.specs.Read.{Read, Read.got}
+use Rattle.field.specs.Field.{fieldIn, fieldOf}
+use Rattle.field.proofs.Fields.{field-there}
+use Rattle.sheet.specs.Sheet.{linksMost}
 use Rattle.sheet.specs.Reader.{linkAt}
 use Rattle.sheet.specs.Inner.Sections.{endsOf}
-use Rattle.sheet.proofs.Readings.{Reached, reached-none, reached-more, reached-refused}
-use Rattle.sheet.proofs.LinkRows.{link-anywhere, links-none, links-refused, links-got}
+use Rattle.sheet.proofs.Readings.{section-none, section-rows, reached-refused, reached-all}
+use Rattle.sheet.proofs.LinkRows.{link-anywhere, ends-there}
+use Rattle.sheet.proofs.LinkTable.{Ended, ended-none, ended-more, rows-refused, rows-got}
 use Rattle.sheet.proofs.read_links.Statement.{statement}
 use Rattle.sheet.proofs.read_links.Tie as tie
 
 abbrev Inv-loop : tie.InvT-loop
-Inv-loop s n many c₀ i₀ c i = (i ≤ many) × Reached (linkAt s n) many i (c₀ .at) (c .at)
+Inv-loop s n ends₀ many c₀ i₀ ends c i = (i ≤ many) × (length ends ≡ 512) × (many ≤ linksMost) × Ended s n many i ends (c₀ .at) (c .at)
 
 abbrev μ-loop : tie.MeasureT-loop
-μ-loop s n many c₀ i₀ c i = many - i
+μ-loop s n ends₀ many c₀ i₀ ends c i = many - i
 
-add-within : tie.Need-add-within Inv-loop μ-loop
-add-within c = search needs
-
-within-requires : tie.Need-within-requires Inv-loop μ-loop
-within-requires c κs = search needs
-
-enum-known-f : tie.Need-enum-known-f Inv-loop μ-loop
-enum-known-f c = search needs
-
-enum-told : tie.Need-enum-told Inv-loop μ-loop
-enum-told c = search needs
+-- how many links there are
+count : (c : tie.After-known-told Inv-loop μ-loop) → fieldIn 2 0 (linksMost + 1) beyond (now (c .before .before .before .before .before .before .args .s)) (c .before .before .before .before .before .before .args .start .at) ≡ got (c .before .f .given .0 .0) (c .before .f .given .0 .1 .0 .at)
+count c = sym (c .before .before .before .within .ensures) ∙ ap fieldOf (c .before .f .given .1)
 
 returns : tie.Need-returns Inv-loop μ-loop
-returns c = ap fieldOf (c .enum-told .given .1) ∙ sym (links-none _ _ _ _ _ (sym (c .before .before .within .ensures) ∙ ap fieldOf (c .enum-told .given .1)))
+returns c =
+    let e = ap fieldOf (c .enum-told .given .1) in
+    rows-refused _ _ _ _ _ (section-none (linkAt _ _) linksMost _ _ _ _ (sym (c .before .before .within .ensures) ∙ e)) e
 
 loop-holds : tie.Need-loop-holds Inv-loop μ-loop
-loop-holds c = (omega arith, reached-none _ _ _)
-
-link-ends-requires : tie.Need-link-ends-requires Inv-loop μ-loop
-link-ends-requires c κs = search needs
-
-enum-known-number : tie.Need-enum-known-number Inv-loop μ-loop
-enum-known-number c = search needs
+loop-holds c =
+    let most = field-there 2 0 (linksMost + 1) beyond _ _ _ _ (count c) .most in
+    (omega arith, c .before .before .before .before .before .before .pre .0, omega arith, ended-none _ _ _ _ _)
 
 returns-2 : tie.Need-returns-2 Inv-loop μ-loop
 returns-2 c =
-    sym (links-refused _ _ _ _ _ (sym (c .before .before .before .before .before .before .before .before .before .within .ensures) ∙ ap fieldOf (c .before .before .before .before .before .before .before .f .given .1)) _ _
-    (reached-refused _ _ _ _ _ (c .before .before .before .before .before .loop .inv .1) (c .before .before .before .before .loop-test .taken) _ _
-    (link-anywhere _ _ _ _ _ (sym (c .before .before .before .link-ends .ensures) ∙ ap endsOf (c .before .number .given .1)))))
+    let l = c .before .before .before .before .before in
+    rows-refused _ _ _ _ _
+    (section-rows (linkAt _ _) linksMost _ _ _ _ (count (l .before))
+    ∙ reached-refused _ _ _ _ _ (l .loop .inv .3 .on) (c .before .before .before .before .loop-test .taken) _ _ (link-anywhere _ _ _ _ _ (sym (c .before .before .before .link-ends .ensures) ∙ ap endsOf (c .before .number .given .1))))
+    refl
 
-enum-known-next : tie.Need-enum-known-next Inv-loop μ-loop
-enum-known-next c = search needs
+-- the link that was read
+is : (c : tie.After-known-told3 Inv-loop μ-loop) →
+    linkAt (now (c .before .before .before .before .before .before .before .before .before .before .before .before .args .s)) (c .before .before .before .before .before .before .before .before .before .before .before .before .args .n) [] (c .before .before .before .before .before .loop .c .at)
+    ≡ got (record { producer = c .before .p .given .0 .0; consumer = c .before .p .given .0 .1 .0 }) (c .before .p .given .0 .1 .1 .0 .at)
+is c = sym (c .before .before .before .link-ends .ensures) ∙ ap endsOf (c .before .p .given .1)
 
-add-i : tie.Need-add-i Inv-loop μ-loop
-add-i c = omega arith
+ends-few : (c : tie.After-known-told3 Inv-loop μ-loop) → (c .before .p .given .0 .0 < 256) × (c .before .p .given .0 .1 .0 < 256)
+ends-few c =
+    let k = ends-there _ _ _ _ _ _ (is c) in
+    (omega (arith, k .0, c .before .before .before .before .before .before .before .before .before .before .before .before .pre .1), omega (arith, k .1, c .before .before .before .before .before .before .before .before .before .before .before .before .pre .1))
 
-loop-less : tie.Need-loop-less Inv-loop μ-loop
-loop-less c = omega arith
+room : (c : tie.After-known-told3 Inv-loop μ-loop) → c .before .before .before .before .before .loop .i < 256
+room c = omega (arith, c .before .before .before .before .before .loop .inv .2, c .before .before .before .before .loop-test .taken)
 
 loop-again : tie.Need-loop-again Inv-loop μ-loop
-loop-again c = (
-  omega arith,
-  reached-more _ _ _ _ _ (c .before .before .before .before .before .loop .inv .1) (c .before .before .before .before .loop-test .taken) _ _
-      (link-anywhere _ _ _ _ _ (sym (c .before .before .before .link-ends .ensures) ∙ ap endsOf (c .before .next .given .1))),
-)
+loop-again c =
+    let l = c .before .before .before .before .before in
+    (omega arith, simp length-set (l .loop .inv .1), l .loop .inv .2, ended-more _ _ _ _ _ _ _ (l .loop .inv .3) (c .before .before .before .before .loop-test .taken) _ _ _ (omega (arith, room c, l .loop .inv .1)) (link-anywhere _ _ _ _ _ (is c)))
 
 returns-3 : tie.Need-returns-3 Inv-loop μ-loop
 returns-3 c =
-    let done : c .before .loop .i ≡ c .before .before .before .f .given .0 .0 = omega arith in
-    sym (links-got _ _ _ _ _ (sym (c .before .before .before .before .before .within .ensures) ∙ ap fieldOf (c .before .before .before .f .given .1)) _ _ done (c .before .loop .inv .1))
+    let l = c .before in
+    let h = l .loop .inv .3 in
+    let done : l .loop .i ≡ l .before .before .f .given .0 .0 = omega arith in
+    rows-got _ _ _ (h .on .so-far) _ (section-rows (linkAt _ _) linksMost _ _ _ _ (count (l .before)) ∙ reached-all _ _ _ _ _ (h .on) done)
+    (ap (λ (x : ℕ). got x (l .loop .c .at)) (sym (h .on .many ∙ done))) (rw (h .on .many) (h .ends))
 
 pub read-links-spec : {M : Type 1} → statement M
 read-links-spec =
@@ -75,17 +81,26 @@ read-links-spec =
     (tie.spec
     Inv-loop
     μ-loop
-    add-within
-    within-requires
-    enum-known-f
-    enum-told
+    (λ c. search needs)
+    (λ c κs. search needs)
+    (λ c. search needs)
+    (λ c. search needs)
     returns
     loop-holds
-    link-ends-requires
-    enum-known-number
+    (λ c κs. search needs)
+    (λ c. search needs)
+    (λ c. c .before .before .before .before .before .loop .inv .1 ∙ sym (c .before .before .before .before .before .before .before .before .before .before .before .before .pre .0))
     returns-2
-    enum-known-next
-    add-i
-    loop-less
+    (λ c. search needs)
+    (λ c. record { fits = ends-few c .0 })
+    (λ c. record { fits = omega (arith, room c) })
+    (λ c. omega (arith, room c, c .before .before .before .before .before .loop .inv .1))
+    (λ c. record { fits = ends-few c .1 })
+    (λ c. record { fits = omega (arith, room c) })
+    (λ c. record { fits = omega (arith, room c) })
+    (λ c. simp length-set (omega (arith, room c, c .before .before .before .before .before .loop .inv .1)))
+    (λ c. omega arith)
+    (λ c. omega arith)
     loop-again
+    (λ c. c .before .loop .inv .1 ∙ sym (c .before .before .before .before .before .before .before .before .pre .0))
     returns-3)

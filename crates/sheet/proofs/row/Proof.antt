@@ -1,47 +1,56 @@
--- `row` meets its contract.
--- Assumes nothing.
+-- `row` meets its contract: both ends of the link are clocks of the table. Assumes nothing.
+use Prim.Native.Nat.{_+_, _*_, _<_}
+use native.Mathlib.Omega.{arith}
 use borrow.Author.Needs.{needs}
 use denote.Ref.{now}
+use lib.ListN.{length, getD}
+use Rattle.sheet.specs.Inner.Sections.{linkIn}
 use Rattle.sheet.proofs.LinkRows.{entry-taken, row-is}
 use Rattle.sheet.proofs.row.Statement.{statement}
 use Rattle.sheet.proofs.row.Tie as tie
 
-entry-requires : tie.Need-entry-requires
-entry-requires c κs = search needs
+-- the ends stand in the table, and name clocks
+module _ (a : tie.Start) where
+  room : 2 * a .args .i + 1 < length (now (a .args .ends))
+  room = omega (arith, a .pre .1, a .pre .2 .pairs)
 
-entry-requires-2 : tie.Need-entry-requires-2
-entry-requires-2 c κs = search needs
+  producer : getD (now (a .args .ends)) (2 * a .args .i) 0 < length (now (a .args .states))
+  producer = a .pre .2 .there (2 * a .args .i) (omega (arith, room))
 
-judge-requires : tie.Need-judge-requires
-judge-requires c κs =
-    let a = c .before .before .before in (
-      entry-taken (now (a .args .clocks)) (a .args .i) _ (a .pre .4) (a .pre .0) (c .before .entry .ensures),
-      entry-taken (now (a .args .clocks)) (a .args .j) _ (a .pre .4) (a .pre .1) (c .entry2 .ensures),
-    )
-
-shared-slice-read-state-of : tie.Need-shared-slice-read-state-of
-shared-slice-read-state-of c = search needs
-
-shared-slice-read-state-of-2 : tie.Need-shared-slice-read-state-of-2
-shared-slice-read-state-of-2 c = search needs
-
-state-of-requires : tie.Need-state-of-requires
-state-of-requires c κs = search needs
+  consumer : getD (now (a .args .ends)) (2 * a .args .i + 1) 0 < length (now (a .args .states))
+  consumer = a .pre .2 .there (2 * a .args .i + 1) room
 
 returns : tie.Need-returns
 returns c =
-    let a = c .before .before .before .before .before .before .before in
-    row-is (now (a .args .clocks)) (now (a .args .states)) _ _ (c .before .before .before .before .before .entry .result) (c .before .before .before .before .entry2 .result) _ _ (a .pre .0) (a .pre .1)
-    (c .before .before .before .before .before .entry .ensures) (c .before .before .before .before .entry2 .ensures) (c .before .before .before .judge .ensures) (c .state-of .ensures)
+    let j = c .before .before .before in
+    let p = j .before .before in
+    let a = p .before .before .before .before .before in
+    row-is (now (a .args .clocks)) (now (a .args .states)) (linkIn (now (a .args .ends)) (a .args .i)) (p .entry .result) (j .before .entry2 .result) _ _ (omega (arith, producer a, a .pre .2 .many)) (omega (arith, consumer a, a .pre .2 .many))
+    (p .entry .ensures) (j .before .entry2 .ensures) (j .judge .ensures) (c .state-of .ensures)
+
+judge-requires : tie.Need-judge-requires
+judge-requires c κs =
+    let p = c .before in
+    let a = p .before .before .before .before .before in (
+      entry-taken (now (a .args .clocks)) _ _ (a .pre .2 .table) (omega (arith, producer a, a .pre .2 .many)) (p .entry .ensures),
+      entry-taken (now (a .args .clocks)) _ _ (a .pre .2 .table) (omega (arith, consumer a, a .pre .2 .many)) (c .entry2 .ensures),
+    )
 
 pub row-spec : {M : Type 1} → statement M
 row-spec =
     tie.close
     (tie.spec
-    entry-requires
-    entry-requires-2
+    (λ c. omega (arith, c .before .before .pre .1, c .before .before .pre .2 .few-links))
+    (λ c. omega (arith, room (c .before .before .before)))
+    (λ c. omega (arith, producer (c .before .before .before), c .before .before .before .pre .2 .few-clocks))
+    (λ c. omega (arith, c .before .before .before .pre .1, c .before .before .before .pre .2 .few-links))
+    (λ c. omega (arith, c .before .before .before .pre .1, c .before .before .before .pre .2 .few-links))
+    (λ c. room (c .before .before .before .before))
+    (λ c. omega (arith, consumer (c .before .before .before .before), c .before .before .before .before .pre .2 .few-clocks))
+    (λ c κs. let a = c .before .before .before .before in (omega (arith, producer a, a .pre .2 .many), a .pre .2 .table))
+    (λ c κs. let a = c .before .before .before .before .before in (omega (arith, consumer a, a .pre .2 .many), a .pre .2 .table))
     judge-requires
-    shared-slice-read-state-of
-    shared-slice-read-state-of-2
-    state-of-requires
+    (λ c. producer (c .before .before .before .before .before .before .before .before))
+    (λ c. consumer (c .before .before .before .before .before .before .before .before .before))
+    (λ c κs. search needs)
     returns)

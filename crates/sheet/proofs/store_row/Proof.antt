@@ -16,7 +16,7 @@ use Rattle.whole.proofs.Bridge.{sfits-small}
 use Rattle.whole.proofs.Machine.{held}
 use Rattle.link.specs.declared.Row.{Row}
 use Rattle.link.specs.Link.{numberOf, sizeIn}
-use Rattle.sheet.specs.WorkOut.{flatRow}
+use Rattle.sheet.specs.WorkOut.{linkNumbers}
 use Rattle.sheet.proofs.LinkRows.{number-small}
 use Rattle.sheet.proofs.store_row.Statement.{statement}
 use Rattle.sheet.proofs.store_row.Tie as tie
@@ -33,7 +33,7 @@ stored :
     x ≡ pos (numberOf (r .verdict)) →
     y ≡ pos (sizeIn (r .verdict)) →
     z ≡ pos (r .state) →
-    set (set (set t a x) (a + 1) y) (a + 2) z ≡ sets t a (flatRow r)
+    set (set (set t a x) (a + 1) y) (a + 2) z ≡ sets t a (linkNumbers r)
 stored t a x y z r p q s = rw (p, q, s) (simp towards-suc)
 
 mul-at : tie.Need-mul-at

@@ -1,5 +1,4 @@
--- `work_out` meets its contract: nothing is written before the sheet has passed and the room is there.
--- Assumes nothing.
+-- `work_out` meets its contract: what was read decides, and what is given of the tables. Assumes nothing.
 use mathlib.Core.Path.{_≡_, sym, _∙_}
 use Prim.Native.Nat.{ℕ, _*_, _≤_}
 use native.Mathlib.Omega.{arith}
@@ -9,146 +8,78 @@ use lib.ListN.{length}
 use lib.Seq.{length-take-le}
 use Rattle.field.specs.Read.{Read.got}
 use Rattle.field.specs.Spelling.{AllBytes}
-use Rattle.sheet.specs.Sheet.{clocksMost}
+use Rattle.sheet.specs.Sheet.{clocksMost, linksMost}
 use Rattle.sheet.specs.Reader.{readSheet}
 use Rattle.sheet.specs.Opened.{Opened}
 use Rattle.sheet.specs.Inner.Sections.{foundOf}
-use Rattle.sheet.proofs.Outcome.{reading-refused, reading-whole, out-refused, not-read, short-clocks, short-links, clocks-few, links-few, ready, out-done}
+use Rattle.sheet.proofs.Outcome.{reading-refused, reading-whole, out-refused, not-read, clocks-few, links-few, ready, out-given}
 use Rattle.sheet.proofs.work_out.Statement.{statement}
 use Rattle.sheet.proofs.work_out.Tie as tie
 
--- the sheet that was read
-whole : (c : tie.After-known-told2) → (o : Opened) × (d : ℕ) × (readSheet (now (c .before .before .before .before .before .before .before .before .before .args .sheet)) ≡ got o d) × (foundOf o ≡ c .before .f .given .0 .0)
-whole c = reading-whole _ _ (sym (c .before .f .given .1) ∙ c .before .before .before .before .before .read .ensures .0)
+-- the sheet that was read, and that its rows are in the tables
+module _ (c : tie.After-known-told2) where
+  whole : (o : Opened) × (d : ℕ) × (readSheet (now (c .before .before .before .before .before .before .before .before .before .before .before .args .sheet)) ≡ got o d) × (foundOf o ≡ c .before .f .given .0 .0)
+  whole = reading-whole _ _ (sym (c .before .f .given .1) ∙ c .before .before .before .before .before .before .read .ensures .0)
 
-bytes : (c : tie.After-known-told2) → AllBytes (now (c .before .before .before .before .before .before .before .before .before .args .sheet))
-bytes c j = c .before .before .before .before .before .before .before .before .shared-slice-known .given j .fits
+  bytes : AllBytes (now (c .before .before .before .before .before .before .before .before .before .before .before .args .sheet))
+  bytes j = c .before .before .before .before .before .before .before .before .before .before .shared-slice-known .given j .fits
 
-few : (c : tie.After-known-told2) → c .before .f .given .0 .0 .clocks ≤ clocksMost
-few c =
-    let w = whole c in
-    clocks-few _ (bytes c) (w .0) (w .1) (w .2) _ (w .3)
+  few : c .before .f .given .0 .0 .clocks ≤ clocksMost
+  few = clocks-few _ bytes (whole .0) (whole .1) (whole .2) _ (whole .3)
 
-table-fits : (c : tie.After-known-told2) → 4 * c .before .f .given .0 .0 .clocks ≤ length (c .before .before .before .before .before .read .last .1 .0)
-table-fits c = omega (arith, few c, c .before .before .before .before .before .read .kept .1 .0)
+  few-links : c .before .f .given .0 .0 .links ≤ linksMost
+  few-links = links-few _ bytes (whole .0) (whole .1) (whole .2) _ (whole .3)
 
-states-fit : (c : tie.After-known-told2) → c .before .f .given .0 .0 .clocks ≤ length (c .before .before .before .before .before .read .last .1 .1 .0)
-states-fit c = omega (arith, few c, c .before .before .before .before .before .read .kept .1 .1 .0)
+  table-fits : 4 * c .before .f .given .0 .0 .clocks ≤ length (c .before .before .before .before .before .before .read .last .1 .0)
+  table-fits = omega (arith, few, c .before .before .before .before .before .before .read .kept .1 .0)
 
-slice-aggregate-read : tie.Need-slice-aggregate-read
-slice-aggregate-read c = search needs
+  states-fit : c .before .f .given .0 .0 .clocks ≤ length (c .before .before .before .before .before .before .read .last .1 .1 .0)
+  states-fit = omega (arith, few, c .before .before .before .before .before .before .read .kept .1 .1 .0)
 
-slice-aggregate-read-2 : tie.Need-slice-aggregate-read-2
-slice-aggregate-read-2 c = search needs
+  ends-fit : 2 * c .before .f .given .0 .0 .links ≤ length (c .before .before .before .before .before .before .read .last .1 .1 .1 .0)
+  ends-fit = omega (arith, few-links, c .before .before .before .before .before .before .read .kept .1 .1 .1 .0)
 
-read-requires : tie.Need-read-requires
-read-requires c κs = search needs
-
-enum-known-number : tie.Need-enum-known-number
-enum-known-number c = search needs
-
-refuse-requires : tie.Need-refuse-requires
-refuse-requires c κs = search needs
-
-enum-known-f : tie.Need-enum-known-f
-enum-known-f c = search needs
-
-mul-end : tie.Need-mul-end
-mul-end c = record { fits = omega (arith, few c) }
-
-refuse-requires-2 : tie.Need-refuse-requires-2
-refuse-requires-2 c κs = search needs
+give-requires : tie.Need-give-requires
+give-requires c κs =
+    let k = c .before .before .before .before .before in
+    let w = whole k in
+    ready _ (bytes k) (w .0) (w .1) (w .2) _ (w .3) _ _ _ (k .before .before .before .before .before .before .read .ensures .1)
 
 returns : tie.Need-returns
 returns c =
-    let w = whole (c .before .before) in
-    out-refused _ _ _ _ _ _ (short-clocks _ _ _ (w .0) (w .1) (w .2) _ (w .3) (c .before .if1 .taken)) (c .refuse2 .ensures)
-
-mul-if2 : tie.Need-mul-if2
-mul-if2 c =
-    let w = whole (c .before) in
-    record { fits = omega (arith, links-few _ (bytes (c .before)) (w .0) (w .1) (w .2) _ (w .3)) }
-
-refuse-requires-3 : tie.Need-refuse-requires-3
-refuse-requires-3 c κs = search needs
+    let n = c .before .before in
+    out-refused _ _ _ _ _ _
+    (not-read _ _ _ _ _ (reading-refused _ _ _ (sym (n .number .given .1) ∙ n .before .before .before .before .before .read .ensures .0)))
+    (c .refuse .ensures)
 
 returns-2 : tie.Need-returns-2
 returns-2 c =
-    let w = whole (c .before .before .before) in
-    out-refused _ _ _ _ _ _ (short-links _ _ _ (w .0) (w .1) (w .2) _ (w .3) (c .before .before .if1 .left) (c .before .if2 .taken)) (c .refuse3 .ensures)
-
-array-share-prefix-table : tie.Need-array-share-prefix-table
-array-share-prefix-table c = table-fits (c .before .before)
-
-slice-aggregate-copy : tie.Need-slice-aggregate-copy
-slice-aggregate-copy c = sym (length-take-le (4 * c .before .before .before .before .f .given .0 .0 .clocks) (c .before .before .before .before .before .before .before .before .read .last .1 .0) (table-fits (c .before .before .before)))
-
-copy-requires : tie.Need-copy-requires
-copy-requires c κs =
-    let e = length-take-le (4 * c .before .before .before .before .before .f .given .0 .0 .clocks) (c .before .before .before .before .before .before .before .before .before .read .last .1 .0) (table-fits (c .before .before .before .before)) in
-    omega (arith, e, c .before .before .before .if1 .left)
-
-array-share-prefix-table-2 : tie.Need-array-share-prefix-table-2
-array-share-prefix-table-2 c = table-fits (c .before .before .before .before .before .before)
-
-slice-aggregate-fill : tie.Need-slice-aggregate-fill
-slice-aggregate-fill c = sym (length-take-le (4 * c .before .before .before .before .before .before .before .before .f .given .0 .0 .clocks) (c .before .before .before .before .before .before .before .before .before .before .before .before .read .last .1 .0) (table-fits (c .before .before .before .before .before .before .before)))
-
-array-share-prefix-states : tie.Need-array-share-prefix-states
-array-share-prefix-states c = states-fit (c .before .before .before .before .before .before .before)
-
-slice-aggregate-fill-2 : tie.Need-slice-aggregate-fill-2
-slice-aggregate-fill-2 c = sym (length-take-le (c .before .before .before .before .before .before .before .before .before .f .given .0 .0 .clocks) (c .before .before .before .before .before .before .before .before .before .before .before .before .before .read .last .1 .1 .0) (states-fit (c .before .before .before .before .before .before .before .before)))
-
-fill-requires : tie.Need-fill-requires
-fill-requires c κs =
-    let w = whole (c .before .before .before .before .before .before .before .before .before) in
-    ready _ (bytes (c .before .before .before .before .before .before .before .before .before)) (w .0) (w .1) (w .2) _ (w .3) _ _ (c .before .before .before .before .before .before .before .before .before .before .before .before .before .before .read .ensures .1) _ (c .before .before .before .before .before .before .before .if2 .left)
-
-returns-3 : tie.Need-returns-3
-returns-3 c =
-    out-refused _ _ _ _ _ _
-    (not-read _ _ _ _ _ (reading-refused _ _ _ (sym (c .before .before .number .given .1) ∙ c .before .before .before .before .before .before .read .ensures .0)))
-    (c .refuse .ensures)
-
-same-length : tie.Need-same-length
-same-length c = search needs
-
-same-length-2 : tie.Need-same-length-2
-same-length-2 c = search needs
-
-returns-4 : tie.Need-returns-4
-returns-4 c =
-    let w = whole (c .before .before .before .before .before .before .before .before .before .before .before) in
-    let a = c .before .before .before .before .before .before .before .before .before .before .before .before .before .before .before .before .before .before .before .before in
-    out-done _ (bytes (c .before .before .before .before .before .before .before .before .before .before .before)) (w .0) (w .1) (w .2) _ (w .3) _ _ (c .before .before .before .before .before .before .before .before .before .before .before .before .before .before .before .before .read .ensures .1) (c .before .fill .result) (now (a .args .clocks)) _ (now (a .args .links)) _ (c .before .before .before .before .before .before .before .before .before .before .if1 .left) (c .before .before .before .before .before .before .before .before .before .if2 .left)
-    (c .before .before .before .before .before .before .copy .ensures) (c .before .fill .ensures .0) (c .before .fill .ensures .1)
+    let g = c .before .before in
+    let k = g .before .before .before .before .before .before in
+    let w = whole k in
+    out-given _ (bytes k) (w .0) (w .1) (w .2) _ (w .3) _ _ _ (k .before .before .before .before .before .before .read .ensures .1) _ _ _ _ _ (g .give .ensures)
 
 pub work-out-spec : {M : Type 1} → statement M
 work-out-spec =
     tie.close
     (tie.spec
-    slice-aggregate-read
-    slice-aggregate-read-2
-    read-requires
-    enum-known-number
-    refuse-requires
-    enum-known-f
-    mul-end
-    refuse-requires-2
+    (λ c. search needs)
+    (λ c. search needs)
+    (λ c. search needs)
+    (λ c κs. search needs)
+    (λ c. search needs)
+    (λ c κs. search needs)
+    (λ c. search needs)
+    (λ c. record { fits = omega (arith, few c) })
+    (λ c. record { fits = omega (arith, few-links c) })
+    (λ c. table-fits c)
+    (λ c. sym (length-take-le _ _ (table-fits (c .before))))
+    (λ c. states-fit (c .before))
+    (λ c. sym (length-take-le _ _ (states-fit (c .before .before))))
+    (λ c. ends-fit (c .before .before))
+    (λ c. sym (length-take-le _ _ (ends-fit (c .before .before .before))))
+    give-requires
     returns
-    mul-if2
-    refuse-requires-3
-    returns-2
-    array-share-prefix-table
-    slice-aggregate-copy
-    copy-requires
-    array-share-prefix-table-2
-    slice-aggregate-fill
-    array-share-prefix-states
-    slice-aggregate-fill-2
-    fill-requires
-    returns-3
-    same-length
-    same-length-2
-    returns-4)
+    (λ c. search needs)
+    (λ c. search needs)
+    returns-2)

@@ -1,8 +1,8 @@
 -- What the code's readers of sections answer, and what they leave in the tables that are lent to them: each by the one reader of Reader.antt.
 use mathlib.Core.Path.{_≡_}
 use mathlib.Core.Bool.{cond}
-use mathlib.Core.List.{List, [], map}
-use Prim.Native.Nat.{ℕ, _+_, _*_, _≤_}
+use mathlib.Core.List.{List, [], _∷_, map}
+use Prim.Native.Nat.{ℕ, _+_, _*_, _≤_, _<_}
 use lib.IntN.{ℤ}
 use lib.Dec.{leb}
 use lib.ListN.{length, getD, take}
@@ -19,17 +19,18 @@ use Rattle.expression.specs.Expression.{Word, Clock, depthMost, spellWord, spel
 use Rattle.expression.specs.Evaluate.{wordNodes}
 use Rattle.expression.specs.Reader.{exprAt, nodeIn}
 use Rattle.expression.specs.Table.{flats}
-use Rattle.expression.specs.Inner.Nodes.{AllTaken, Holds}
+use Rattle.expression.specs.Inner.Nodes.{nodesIn, AllTaken, Holds}
 use Rattle.sheet.specs.declared.Marked.{Marked}
 use Rattle.sheet.specs.declared.Ends.{Ends}
 use Rattle.sheet.specs.declared.Found.{Found}
 use Rattle.sheet.specs.declared.Reading.{Reading}
 use Rattle.sheet.specs.declared.Rooms.{Rooms}
+use Rattle.sheet.specs.declared.Reply.{Reply}
 use Rattle.sheet.specs.Sheet.{Link, section, wordsMost, clocksMost, linksMost}
-use Rattle.sheet.specs.Reader.{rowsAt, sectionAt, bitsAt, wordAt, linkAt}
+use Rattle.sheet.specs.Reader.{sectionAt, bitsAt, wordAt, linksOn, clocksOn}
 use Rattle.sheet.specs.Opened.{ClockNode, nodeOfClock, Opened}
 use Rattle.sheet.specs.Rooms.{verdictIn, total, sizeOfRow}
-use Rattle.sheet.specs.WorkOut.{flatRows}
+use Rattle.sheet.specs.WorkOut.{roomFor, replyOf, clocksOut, linksOut}
 
 -- ---- words
 
@@ -81,19 +82,35 @@ abbrev pub endsOf : Ends → Read Link
 endsOf (Ends.Got i j c) = got (record { producer = i; consumer = j }) (c .at)
 endsOf (Ends.Refused number place) = refused number place
 
--- ---- a whole sheet
-abbrev pub refusedOf : Field → Reading
-refusedOf (Field.Got v c) = Reading.Refused 0 0
-refusedOf (Field.Refused number place) = Reading.Refused number place
+-- their ends, one after another in a table
+unfoldable pub flatLinks : List Link → List ℕ
+flatLinks [] = []
+flatLinks (l ∷ ls) = l .producer ∷ l .consumer ∷ flatLinks ls
 
+-- the links whose ends stand in a table
+unfoldable pub linksOf : List ℕ → List Link
+linksOf [] = []
+linksOf (i ∷ []) = []
+linksOf (i ∷ j ∷ es) = record { producer = i; consumer = j } ∷ linksOf es
+
+-- how many links, and their ends in a table
+abbrev pub LinkRows : Read (List Link) → Field → List ℕ → Type 0
+LinkRows (got ls c) r es = (fieldOf r ≡ got (length ls) c) × (take (2 * length ls) es ≡ flatLinks ls)
+LinkRows (refused number place) r es = fieldOf r ≡ refused number place
+
+-- ---- a whole sheet
+
+-- what was found of a sheet whose clocks' rows begin at `first`
+abbrev pub foundFrom : ℕ → Opened → Found
+foundFrom first o = record { clocks = length (o .table); links = length (o .sheet .links); clockrows = first }
+
+abbrev pub readingFrom : ℕ → Read Opened → Reading
+readingFrom first (got o c) = Reading.Whole (foundFrom first o)
+readingFrom first (refused number place) = Reading.Refused number place
+
+-- they begin behind the words and the count of the clocks
 abbrev pub foundOf : Opened → Found
-foundOf o =
-    record {
-      clocks = length (o .table);
-      links = length (o .sheet .links);
-      clockrows = length (section spellWord (o .sheet .words)) + 2;
-      linkrows = length (section spellWord (o .sheet .words)) + length (section spellClock (o .sheet .clocks)) + 2;
-    }
+foundOf o = foundFrom (length (section spellWord (o .sheet .words)) + 2) o
 
 abbrev pub readingOf : Read Opened → Reading
 readingOf (got o c) = Reading.Whole (foundOf o)
@@ -102,47 +119,71 @@ readingOf (refused number place) = Reading.Refused number place
 abbrev pub stateOfClock : Clock → ℕ
 stateOfClock c = c .state
 
-abbrev pub Tabled : Read Opened → List ℤ → List ℕ → Type 0
-Tabled (got o c) t ss =
+-- the links' ends in their table
+abbrev pub EndsLeft : Read Opened → List ℕ → Type 0
+EndsLeft (got o c) es = take (2 * length (o .sheet .links)) es ≡ flatLinks (o .sheet .links)
+EndsLeft (refused number place) es = Unit
+
+-- the clocks' nodes, their states and the links' ends, each in its table
+abbrev pub Tabled : Read Opened → List ℤ → List ℕ → List ℕ → Type 0
+Tabled (got o c) t ss es =
     (take (4 * length (o .table)) t ≡ flats (o .table))
     × (take (length (o .table)) ss ≡ map stateOfClock (o .sheet .clocks))
     × AllTaken (o .table)
-Tabled (refused number place) t ss = Unit
+    × EndsLeft (got o c) es
+Tabled (refused number place) t ss es = Unit
+
+-- what is answered and left from the links on, whatever the words and the m clocks before them are
+abbrev pub ToEnd : List ℕ → ℕ → ℕ → ℕ → Reading → List ℕ → Type 0
+ToEnd s first a m r es =
+    (ws : List Word) (rows : List ClockNode) → length rows ≡ m → (r ≡ readingFrom first (linksOn s ws rows a)) × EndsLeft (linksOn s ws rows a) es
+
+-- and from the clocks on, whatever words have those nodes
+abbrev pub FromClocks : List ℕ → ℕ → List Node → Reading → List ℤ → List ℕ → List ℕ → Type 0
+FromClocks s a xs r t ss es =
+    (ws : List Word) → xs ≡ wordNodes ws → (r ≡ readingFrom (a + 2) (clocksOn s ws a)) × Tabled (clocksOn s ws a) t ss es
 
 -- ---- the links' rows, from the tables
-abbrev pub rowAt : List Node → List ℕ → ℕ → ℕ → Row
-rowAt xs ss i j =
+
+-- the link at index i of a table of ends
+abbrev pub linkIn : List ℕ → ℕ → Link
+linkIn es i = record { producer = getD es (2 * i) 0; consumer = getD es (2 * i + 1) 0 }
+
+abbrev pub rowAt : List Node → List ℕ → Link → Row
+rowAt xs ss l =
     record {
-      producer = i;
-      consumer = j;
-      state = stateOf (getD ss i 0) (getD ss j 0);
-      verdict = verdictIn xs (record { producer = i; consumer = j });
+      producer = l .producer;
+      consumer = l .consumer;
+      state = stateOf (getD ss (l .producer) 0) (getD ss (l .consumer) 0);
+      verdict = verdictIn xs l;
     }
 
 abbrev pub rowsIn : List Node → List ℕ → List Link → List Row
-rowsIn xs ss ls = map (λ l. rowAt xs ss (l .producer) (l .consumer)) ls
+rowsIn xs ss ls = map (rowAt xs ss) ls
 
-abbrev pub linksIn : Read (List Link) → List Link
-linksIn (got ls c) = ls
-linksIn (refused number place) = []
+-- both sums over some rows, and over one more
+abbrev pub roomsOver : List Row → Rooms
+roomsOver rs = record { opened = total (map openSizeOf rs); whole = total (map sizeOfRow rs) }
 
-abbrev pub linksFrom : List ℕ → ℕ → ℕ → ℕ → List Link
-linksFrom s m n a = linksIn (rowsAt (linkAt s m) n [] a)
+abbrev pub roomsWith : Rooms → Row → Rooms
+roomsWith q r = record { opened = q .opened + openSizeOf r; whole = q .whole + sizeOfRow r }
 
-abbrev pub roomsOf : List Node → List ℕ → List Link → Rooms
-roomsOf xs ss ls =
-    record { opened = total (map openSizeOf (rowsIn xs ss ls)); whole = total (map sizeOfRow (rowsIn xs ss ls)) }
-
-abbrev pub rowsFrom : List Node → List ℕ → List Link → List ℤ
-rowsFrom xs ss ls = flatRows (rowsIn xs ss ls)
-
--- n links stand at a, between the clocks of a table, and there is room for their rows
-pub record Ready (s : List ℕ) (t : List ℤ) (ss : List ℕ) (n room a : ℕ) : Type 0 where
+-- the ends of n links in a table, between the clocks of the others
+pub record Ready (t : List ℤ) (ss es : List ℕ) (n : ℕ) : Type 0 where
   pub table : Holds t
   pub many : length t ≡ 4 * length ss
   pub few-clocks : length ss ≤ clocksMost
   pub few-links : n ≤ linksMost
-  pub fits : 3 * n ≤ room
-  pub links : List Link
-  pub past : ℕ
-  pub there : rowsAt (linkAt s (length ss)) n [] a ≡ got links past
+  pub pairs : length es ≡ 2 * n
+  pub there : (j : ℕ) → j < length es → getD es j 0 < length ss
+
+-- what is given of a sheet whose clocks' nodes, states and links' ends stand in the tables
+abbrev pub Given : List ℤ → List ℕ → List ℕ → List ℤ → List ℤ → Reply → List ℤ → List ℤ → Type 0
+Given t ss es clocks links r clocks-end links-end =
+    (o : Opened) (c : ℕ)
+    → nodesIn t ≡ o .table
+    → ss ≡ map stateOfClock (o .sheet .clocks)
+    → linksOf es ≡ o .sheet .links
+    → (r ≡ replyOf (roomFor (length clocks) (length links) o c))
+    × (clocks-end ≡ clocksOut (roomFor (length clocks) (length links) o c) clocks)
+    × (links-end ≡ linksOut (roomFor (length clocks) (length links) o c) links)
