@@ -21,7 +21,7 @@ use Rattle.sheet.specs.declared.Reply.{Reply}
 use Rattle.sheet.specs.Reader.{readSheet}
 use Rattle.sheet.specs.Opened.{Opened}
 use Rattle.sheet.specs.Rooms.{rowsOf}
-use Rattle.sheet.specs.WorkOut.{workedOf, replyOf, flatRows, clocksOut, linksOut, WorksOut}
+use Rattle.sheet.specs.WorkOut.{workedOf, replyOf, linkNumbers, flatten, clocksOut, linksOut, WorksOut}
 use Rattle.sheet.specs.Format.{Passed, WorkRefused}
 use Rattle.sheet.proofs.Format.{listed-refused, passed-accepted, one-passed, passed-or-refused, never-both}
 use Rattle.sheet.proofs.Format as Format
@@ -181,7 +181,7 @@ demand-2 =
 
 -- ---- the sizes given
 links-out : (s : List ℕ) (clocks links : List ℤ) (r : Reply) (cs ls : List ℤ) → WorksOut s clocks links r cs ls → r .number ≡ 0 → (o : Opened) → Passed s o
-    → ls ≡ flatRows (rowsOf o) ++ drop (3 * length (o .sheet .links)) links
+    → ls ≡ flatten linkNumbers (rowsOf o) ++ drop (3 * length (o .sheet .links)) links
 links-out s clocks links r cs ls h z o p =
     let a = accepted-0 s (length clocks) (length links) (ap (λ (x : Reply). x .number) (sym (h .reply-is)) ∙ z) in
     let is : a .0 ≡ o = one-passed s (a .0) o (a .1) p in

@@ -16,7 +16,7 @@ use Rattle.sheet.specs.Sheet.{Link}
 use Rattle.sheet.specs.Reader.{readSheet}
 use Rattle.sheet.specs.Opened.{Opened}
 use Rattle.sheet.specs.Rooms.{rowOf, verdictIn}
-use Rattle.sheet.specs.WorkOut.{flatRows}
+use Rattle.sheet.specs.WorkOut.{linkNumbers, flatten}
 use Rattle.sheet.specs.Format.{Passed}
 use Rattle.sheet.proofs.Format.{passed-accepted}
 use Rattle.report.specs.declared.Listed.{Listed}
@@ -24,9 +24,9 @@ use Rattle.report.specs.Listing.{sheetText, listedOf, textAfter, ListsInto}
 
 -- ---- link m: its verdict's number and its size
 row-at : (o : Opened) (ls : List Link) (m : ℕ) (l : Link) (tail : List ℤ) → getElem? ls m ≡ some l
-    → (getD (flatRows (map (rowOf o) ls) ++ tail) (3 * m) (pos 0) ≡ pos (numberOf (verdictIn (o .table) l)))
-    × (getD (flatRows (map (rowOf o) ls) ++ tail) (3 * m + 1) (pos 0) ≡ pos (sizeIn (verdictIn (o .table) l)))
-unfolding flatRows
+    → (getD (flatten linkNumbers (map (rowOf o) ls) ++ tail) (3 * m) (pos 0) ≡ pos (numberOf (verdictIn (o .table) l)))
+    × (getD (flatten linkNumbers (map (rowOf o) ls) ++ tail) (3 * m + 1) (pos 0) ≡ pos (sizeIn (verdictIn (o .table) l)))
+unfolding flatten
 row-at o [] m l tail e = let w : _≡_ {A = ℕ} 0 1 = cc in absurd (omega arith)
 row-at o (k ∷ ls) zero l tail e = let is : k ≡ l = cc in
     rw is (refl, refl)
@@ -43,7 +43,7 @@ accepted (Accepted k) size p q = let is : k ≡ size = cc in
 accepted Rates size p q = let w : _≡_ {A = ℕ} 1 0 = cc in absurd (omega arith)
 accepted Early size p q = let w : _≡_ {A = ℕ} 2 0 = cc in absurd (omega arith)
 
-pub accepted-at : (o : Opened) (tail ls : List ℤ) → ls ≡ flatRows (map (rowOf o) (o .sheet .links)) ++ tail → (m : ℕ) (l : Link) → getElem? (o .sheet .links) m ≡ some l
+pub accepted-at : (o : Opened) (tail ls : List ℤ) → ls ≡ flatten linkNumbers (map (rowOf o) (o .sheet .links)) ++ tail → (m : ℕ) (l : Link) → getElem? (o .sheet .links) m ≡ some l
     → getD ls (3 * m) (pos 0) ≡ pos 0 → (size : ℕ) → getD ls (3 * m + 1) (pos 0) ≡ pos size → verdictIn (o .table) l ≡ Accepted size
 accepted-at o tail ls is m l e zero-at size size-at =
     let row = row-at o (o .sheet .links) m l tail e in

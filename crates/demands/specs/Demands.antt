@@ -5,7 +5,7 @@
 --     sheet/specs/{Sheet, Opened, Format}
 --   envelopes and their rules: whole/specs/{Rounding, Euclid, Order}, envelope/specs/{Limits, Envelope, Word, Made}, expression/specs/Evaluate
 --   streams and what a clock can stand for: envelope/specs/Stream, expression/specs/Stands
---   links, rooms and the result slices: link/specs/{Link, Promise}, sheet/specs/{Rooms, WorkOut, Promise}, expression/specs/Table
+--   links, rooms and the result slices: link/specs/{Link, Promise}, sheet/specs/{Rooms, WorkOut, Promise}
 --   closing and quoting: register/specs/{Closing, Table, Promise}
 --   patterns: pattern/specs/{Step, Pattern, Beginning, Table, Walk}
 --   the listing: line/specs/{Letters, Text}, report/specs/{Listing, Table}
@@ -37,13 +37,12 @@ use Rattle.pattern.specs.Table.{Unfit, Refuses}
 use Rattle.pattern.specs.Walk.{Walks}
 use Rattle.expression.specs.Expression.{Expr}
 use Rattle.expression.specs.Stands.{Stands}
-use Rattle.expression.specs.Table.{flats}
 use Rattle.sheet.specs.declared.Reply.{Reply}
 use Rattle.sheet.specs.Sheet.{Link}
 use Rattle.sheet.specs.Opened.{Opened}
 use Rattle.sheet.specs.Format.{Refused as SheetRefused, Passed, WorkRefused}
 use Rattle.sheet.specs.Rooms.{rowOf, rowsOf, openRoom, wholeRoom}
-use Rattle.sheet.specs.WorkOut.{flatRows, WorksOut}
+use Rattle.sheet.specs.WorkOut.{clockNumbers, linkNumbers, flatten, WorksOut}
 use Rattle.sheet.specs.Promise.{StreamOf}
 use Rattle.register.specs.declared.Closing.{Closing}
 use Rattle.register.specs.declared.QuoteReply.{QuoteReply}
@@ -129,8 +128,8 @@ pub record Demand2 : Type 0 where
       → (o : Opened) → Passed s o → 4 * length (o .table) ≤ length clocks → 3 * length (o .sheet .links) ≤ length links
       → (r .number ≡ 0) × (r .place ≡ 0) × (r .clocks ≡ length (o .table)) × (r .links ≡ length (o .sheet .links))
       × (r .opened ≡ openRoom o) × (r .whole ≡ wholeRoom o)
-      × (cs ≡ flats (o .table) ++ drop (4 * length (o .table)) clocks)
-      × (ls ≡ flatRows (rowsOf o) ++ drop (3 * length (o .sheet .links)) links)
+      × (cs ≡ flatten clockNumbers (o .table) ++ drop (4 * length (o .table)) clocks)
+      × (ls ≡ flatten linkNumbers (rowsOf o) ++ drop (3 * length (o .sheet .links)) links)
   -- and what is listed, into a buffer that has room; no listing is longer than 18,463 bytes
   pub listing : (s : List ℕ) (o : Opened) → Passed s o → (t u : List ℕ) (r : Listed) → ListsInto s t r u → length (sheetText o) ≤ length t
       → (r ≡ Listed.Text (length (sheetText o))) × (u ≡ sheetText o ++ drop (length (sheetText o)) t)

@@ -13,15 +13,14 @@ use Rattle.expression.specs.Evaluate.{fieldsKept, declaredWorth}
 use Rattle.field.specs.Run.{run}
 use Rattle.expression.specs.Format.{parts, expression}
 use Rattle.expression.specs.Reader.{exprAt}
-use Rattle.expression.specs.Table.{flats}
 use Rattle.sheet.specs.Reader.{rowsAt, sectionAt, bitsAt, wordAt, clockAt, linkAt, linksOn, clocksOn, readFrom, readSheet}
 use Rattle.sheet.specs.Rooms.{total, openRoom, wholeRoom}
-use Rattle.sheet.specs.WorkOut.{workedOf, flatRows}
+use Rattle.sheet.specs.WorkOut.{workedOf, flatten}
 use Rattle.sheet.specs.Figures.{nots}
 use Rattle.pattern.specs.Step.{low, high, oneMay, zeroMay}
 use Rattle.pattern.specs.Answer.{checkAnswer, firstAnswer, firstBytes, nextAnswer, nextBytes}
 use Rattle.figures.specs.Figures.{walkFrom, walkOver, figures, said}
 
 pub as-said : figures ≡ said
-unfolding euclid gcdOf lowFirst fieldAt fieldIn signed signedAt signedIn ones resultOf normalOf notOf onOf onesIn wordBit offsets wordOf withinLimits hasRoom isTaken declaredOf limited negatedOf joinedOf sizeOf earlyOf verdictOf fieldsKept declaredWorth run expression parts exprAt flats rowsAt sectionAt bitsAt wordAt clockAt linkAt linksOn clocksOn readFrom readSheet total openRoom wholeRoom workedOf flatRows nots low high oneMay zeroMay checkAnswer firstAnswer firstBytes nextAnswer nextBytes walkFrom walkOver
+unfolding euclid gcdOf lowFirst fieldAt fieldIn signed signedAt signedIn ones resultOf normalOf notOf onOf onesIn wordBit offsets wordOf withinLimits hasRoom isTaken declaredOf limited negatedOf joinedOf sizeOf earlyOf verdictOf fieldsKept declaredWorth run expression parts exprAt rowsAt sectionAt bitsAt wordAt clockAt linkAt linksOn clocksOn readFrom readSheet total openRoom wholeRoom workedOf flatten nots low high oneMay zeroMay checkAnswer firstAnswer firstBytes nextAnswer nextBytes walkFrom walkOver
 as-said = refl

@@ -70,7 +70,8 @@ fn find(s: &[u8], i: usize) -> Field
 {
     let mut table = [0i32; 512];
     let mut states = [0u8; 128];
-    match sheet::read(s, &mut table, &mut states) {
+    let mut ends = [0u8; 512];
+    match sheet::read(s, &mut table, &mut states, &mut ends) {
         Reading::Refused(number, place) => Field::Refused(number, place),
         Reading::Whole(found) => {
             if found.clocks <= i {

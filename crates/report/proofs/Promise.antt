@@ -1,8 +1,7 @@
 -- The promises on the listing are kept. Assumes nothing.
 use mathlib.Core.Path.{_≡_, refl, ap, _∙_}
-use mathlib.Core.List.{List, [], _∷_}
+use mathlib.Core.List.{List}
 use Prim.Native.Nat.{ℕ, _*_}
-use native.Mathlib.Omega.{arith}
 use lib.Dec.{leb}
 use lib.IntN.{ℤ}
 use lib.ListN.{length, length-map}
@@ -10,21 +9,14 @@ use lib.Seq.{take-at}
 use Rattle.reply.specs.Numbers.{shortResult}
 use Rattle.field.specs.Read.{Read.got, Read.refused}
 use Rattle.field.proofs.Read.{through, cond-left}
-use Rattle.link.specs.declared.Row.{Row}
-use Rattle.expression.specs.Table.{flats}
-use Rattle.expression.proofs.Tables.{flats-length}
 use Rattle.sheet.specs.Reader.{readSheet}
 use Rattle.sheet.specs.Opened.{Opened}
 use Rattle.sheet.specs.Rooms.{rowOf, rowsOf, openRoom, wholeRoom}
-use Rattle.sheet.specs.WorkOut.{workedOf, flatRows}
+use Rattle.sheet.specs.WorkOut.{workedOf, clockNumbers, linkNumbers, flatten}
+use Rattle.sheet.proofs.Written.{flatten-length}
 use Rattle.report.specs.Listing.{refusedLine, wholeText, textOf, listingOf}
 use Rattle.report.proofs.Bound.{listing-most}
 use Rattle.report.specs.Promise.{sheetLines, Shows, Listing}
-
-rows-length : (rs : List Row) → length (flatRows rs) ≡ 3 * length rs
-unfolding flatRows
-rows-length [] = refl
-rows-length (r ∷ rs) = omega (arith, rows-length rs)
 
 module _ (s : List ℕ) where
   accepted : (o : Opened) (c : ℕ) → readSheet s ≡ got o c → listingOf s ≡ sheetLines o (openRoom o) (wholeRoom o)
@@ -44,10 +36,10 @@ module _ (s : List ℕ) where
   shows clocks links o c e =
       record {
         text = accepted o c e;
-        clocks-are = take-at (flats (o .table)) _ (4 * length (o .table)) (flats-length (o .table));
+        clocks-are = take-at (flatten clockNumbers (o .table)) _ (4 * length (o .table)) (flatten-length clockNumbers 4 (λ x. refl) (o .table));
         links-are =
-            take-at (flatRows (rowsOf o)) _ (3 * length (o .sheet .links))
-            (rows-length (rowsOf o) ∙ ap (λ (n : ℕ). 3 * n) (length-map (o .sheet .links) (rowOf o)));
+            take-at (flatten linkNumbers (rowsOf o)) _ (3 * length (o .sheet .links))
+            (flatten-length linkNumbers 3 (λ r. refl) (rowsOf o) ∙ ap (λ (n : ℕ). 3 * n) (length-map (o .sheet .links) (rowOf o)));
       }
 
   refused-only : (number place : ℕ) → readSheet s ≡ refused number place → listingOf s ≡ refusedLine number place

@@ -12,17 +12,18 @@ use Rattle.envelope.specs.declared.Node.{Node}
 use Rattle.link.specs.declared.Row.{Row}
 use Rattle.expression.specs.Inner.Nodes.{nodesIn}
 use Rattle.sheet.specs.declared.Found.{Found}
+use Rattle.sheet.specs.declared.Rooms.{Rooms}
 use Rattle.sheet.specs.Reader.{readSheet}
 use Rattle.sheet.specs.Opened.{Opened}
 use Rattle.sheet.specs.Inner.Sections.{foundOf, Tabled}
-use Rattle.sheet.proofs.Outcome.{rows-are, there, table-is, states}
+use Rattle.sheet.proofs.Outcome.{rows-are, links-is, table-is, states}
 use Rattle.line.specs.Text.{Out, outOf, top, putLine, Put}
 use Rattle.line.proofs.Puts.{put-then, put-line, put-at, put-fits}
 use Rattle.report.specs.declared.Listed.{Listed}
 use Rattle.report.specs.declared.Summed.{Summed}
 use Rattle.line.specs.Letters.{letters}
 use Rattle.report.specs.Listing.{roomFields, clockLines, wholeText, sheetText, fitted, over, listedOf, textAfter, ListsInto}
-use Rattle.report.specs.Inner.Parts.{rowsThere, LinksPut}
+use Rattle.report.specs.Inner.Parts.{LinksPut, tableText}
 
 -- `need` is what an empty buffer measured
 module _ (t text : List ℕ) (fits : length text < top) (xs : List ℕ) (need : ℕ) (m : Put [] 0 t xs need) where
@@ -43,11 +44,12 @@ module _ (t text : List ℕ) (fits : length text < top) (xs : List ℕ) (need : 
 
 -- ---- the text of a whole sheet, part by part
 pub whole-put : (ss : List ℕ) (xs : List Node) (rs : List Row) (t t₁ t₂ t₃ : List ℕ) (a b d : ℕ) (m : Summed) → Put t a (clockLines 0 ss xs) t₁ b → LinksPut t₁ b rs t₂ m
-    → outOf t₃ d ≡ putLine (outOf t₂ (m .past)) (letters "room") (roomFields (m .opened) (m .whole))
+    → outOf t₃ d ≡ putLine (outOf t₂ (m .past)) (letters "room") (roomFields (m .rooms .opened) (m .rooms .whole))
     → Put t a (wholeText ss xs rs) t₃ d
 unfolding wholeText
 whole-put ss xs rs t t₁ t₂ t₃ a b d m p q r =
-    rw (put-then, ← p, put-then, ← q .lines, ← put-line, ← q .open-is, ← q .whole-is) r
+    let line = ap (λ (x : Rooms). putLine (outOf t₂ (m .past)) (letters "room") (roomFields (x .opened) (x .whole))) (q .sums) in
+    rw (put-then, ← p, put-then, ← q .lines, ← put-line) (r ∙ line)
 
 -- ---- the listing, by what the reader of a whole sheet answered and left
 module _ (s text : List ℕ) where
@@ -55,13 +57,13 @@ module _ (s text : List ℕ) where
   unfolding listedOf textAfter
   listed-refused number place e = record { answer-is = rw e; text-is = rw e }
 
-  module _ (bytes : AllBytes s) (o : Opened) (c : ℕ) (read : readSheet s ≡ got o c) (f : Found) (f-is : foundOf o ≡ f) (t : List ℤ) (ss : List ℕ) (tabled : Tabled (readSheet s) t ss) where
+  module _ (bytes : AllBytes s) (o : Opened) (c : ℕ) (read : readSheet s ≡ got o c) (f : Found) (f-is : foundOf o ≡ f) (t : List ℤ) (ss es : List ℕ) (tabled : Tabled (readSheet s) t ss es) where
     abbrev readText : List ℕ
-    readText = wholeText (take (f .clocks) ss) (nodesIn (take (4 * f .clocks) t)) (rowsThere s (take (4 * f .clocks) t) (take (f .clocks) ss) (f .links) (f .linkrows))
+    readText = tableText (take (4 * f .clocks) t) (take (f .clocks) ss) (take (2 * f .links) es)
 
     text-is : readText ≡ sheetText o
     text-is =
-        rw (there s bytes o c read f f-is t ss tabled, table-is s bytes o c read f f-is t ss tabled, states s bytes o c read f f-is t ss tabled, rows-are o (o .sheet .links))
+        rw (links-is s bytes o c read f f-is t ss es tabled, table-is s bytes o c read f f-is t ss es tabled, states s bytes o c read f f-is t ss es tabled, rows-are o (o .sheet .links))
 
     pub listed-whole : (text′ : List ℕ) (r : Listed) → (r ≡ fitted readText (length text)) × (text′ ≡ over readText text) → ListsInto s text r text′
     unfolding listedOf textAfter

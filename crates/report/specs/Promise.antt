@@ -6,12 +6,11 @@ use lib.IntN.{ℤ}
 use lib.ListN.{length, take}
 use Rattle.field.specs.Read.{Read, Read.got, Read.refused}
 use Rattle.field.specs.Spelling.{AllBytes}
-use Rattle.expression.specs.Table.{flats}
 use Rattle.sheet.specs.Reader.{readSheet}
 use Rattle.sheet.specs.Opened.{Opened}
 use Rattle.sheet.specs.Rooms.{rowsOf, openRoom, wholeRoom}
 use Rattle.sheet.specs.Inner.Sections.{stateOfClock}
-use Rattle.sheet.specs.WorkOut.{workedOf, replyOf, flatRows, clocksOut, linksOut}
+use Rattle.sheet.specs.WorkOut.{workedOf, replyOf, clockNumbers, linkNumbers, flatten, clocksOut, linksOut}
 use Rattle.line.specs.Text.{lineOf}
 use Rattle.line.specs.Letters.{letters}
 use Rattle.report.specs.Listing.{roomFields, refusedLine, clockLines, linkLines, sheetText, listingMost, listingOf}
@@ -26,9 +25,9 @@ pub record Shows (s : List ℕ) (o : Opened) (w : Read Opened) (clocks links : L
   -- the room line has the two rooms of the reply
   pub text : listingOf s ≡ sheetLines o (replyOf w .opened) (replyOf w .whole)
   -- the clock lines have the k, K, l and n that are filled into the one slice
-  pub clocks-are : take (4 * replyOf w .clocks) (clocksOut w clocks) ≡ flats (o .table)
+  pub clocks-are : take (4 * replyOf w .clocks) (clocksOut w clocks) ≡ flatten clockNumbers (o .table)
   -- the link lines have the verdicts, sizes and states that are filled into the other
-  pub links-are : take (3 * replyOf w .links) (linksOut w links) ≡ flatRows (rowsOf o)
+  pub links-are : take (3 * replyOf w .links) (linksOut w links) ≡ flatten linkNumbers (rowsOf o)
 
 pub record Listing (s : List ℕ) : Type 0 where
   -- every sheet that is accepted is listed, line for line

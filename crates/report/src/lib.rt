@@ -1,18 +1,14 @@
 // The listing of a sheet: its text in a lent buffer, byte for byte document 01's.
 ghost use mathlib.Core.Path.{_≡_};
-ghost use mathlib.Core.List.{[]};
-ghost use Prim.Native.Nat.{_*_};
 ghost use lib.ListN.{length};
 ghost use Rattle.line.specs.Text.{outOf, putField, putFields, putLine, Put};
 ghost use Rattle.expression.specs.Inner.Nodes.{nodesIn};
-ghost use Rattle.sheet.specs.Inner.Sections.{Ready};
-ghost use Rattle.sheet.specs.Reader.{linkAt};
+ghost use Rattle.sheet.specs.Inner.Sections.{linksOf, rowsIn, Ready};
 ghost use Rattle.line.specs.Letters.{letters};
-ghost use Rattle.report.specs.Listing.{stateWord, verdictWord, envelopeFields, clockFields, linkFields, roomFields, clockLines, fitted, over, wholeText, ListsInto};
-ghost use Rattle.report.specs.Inner.Parts.{Many, Next, rowsThere, LinksPut};
+ghost use Rattle.report.specs.Listing.{stateWord, verdictWord, envelopeFields, clockFields, linkFields, roomFields, clockLines, fitted, over, ListsInto};
+ghost use Rattle.report.specs.Inner.Parts.{Many, LinksPut, tableText};
 use envelope::Envelope;
 use expression::entry;
-use field::Cursor;
 use line::put_byte;
 use line::put_bytes;
 use line::put_decimal_field;
@@ -20,8 +16,8 @@ use line::put_digits_field;
 use line::put_word_field;
 use link::Row;
 use link::Verdict;
-use sheet::Ends;
 use sheet::Reading;
+use sheet::Rooms;
 
 // No listing is longer.
 pub const TEXT_MOST: usize = 18_463;
@@ -101,90 +97,44 @@ fn put_clocks(out: &mut [u8], start: usize, table: &[i32], states: &[u8]) -> usi
     at
 }
 
-// A link's row and the cursor past it.
-struct Linked {
-    row: Row,
-    next: Cursor,
-}
-
-// The row of the link at a cursor. Where none stands there, any row will do: links are listed only once all have been read.
-fn link_row(c: Cursor, s: &[u8], table: &[i32], states: &[u8]) -> Linked
-    requires { ⌜ Many (now table) (now states) ⌝ }
-    ensures { λ r. ⌜ Next (nodesIn (now (table .entry))) (now (states .entry)) (linkAt (now (s .entry)) (length (now (states .entry))) [] (c .at)) r ⌝ }
-{
-    match sheet::link_ends(c, s, states.len()) {
-        Ends::Refused(_, _) => Linked {
-            row: Row {
-                producer: 0,
-                consumer: 0,
-                state: 0,
-                verdict: Verdict::Rates,
-            },
-            next: c,
-        },
-        Ends::Got(p, q, next) => Linked {
-            row: sheet::row(p, q, table, states),
-            next,
-        },
-    }
-}
-
-// The place past the links' lines, and the two rooms.
+// The place past the links' lines, and both rooms.
 struct Summed {
     past: usize,
-    opened: u64,
-    whole: u64,
+    rooms: Rooms,
 }
 
 fn put_links(
     out: &mut [u8],
-    place: usize,
-    start: Cursor,
-    s: &[u8],
+    start: usize,
     table: &[i32],
     states: &[u8],
+    ends: &[u8],
     n: usize,
 ) -> Summed
-    requires { ⌜ Ready (now s) (now table) (now states) n (3 * n) (start .at) ⌝ }
-    ensures { λ r. ⌜ LinksPut (now (out .entry)) place (rowsThere (now (s .entry)) (now (table .entry)) (now (states .entry)) n (start .at)) (now (out .exit)) r ⌝ }
+    requires { ⌜ Ready (now table) (now states) (now ends) n ⌝ }
+    ensures { λ r. ⌜ LinksPut (now (out .entry)) start (rowsIn (nodesIn (now (table .entry))) (now (states .entry)) (linksOf (now (ends .entry)))) (now (out .exit)) r ⌝ }
 {
-    let mut c = start;
-    let mut at = place;
+    let mut at = start;
     let mut i: usize = 0;
-    let mut opened: u64 = 0;
-    let mut whole: u64 = 0;
+    let mut rooms = Rooms::none();
     while i < n {
-        let l = link_row(c, s, table, states);
-        let r = l.row;
-        let v = r.verdict;
+        let r = sheet::row(ends, i, table, states);
         at = put_link(out, at, i, r);
-        opened += r.open_size();
-        whole += v.size();
-        c = l.next;
+        rooms = rooms.plus(r);
         i += 1;
     }
-    Summed {
-        past: at,
-        opened,
-        whole,
-    }
+    Summed { past: at, rooms }
 }
 
-// The sheet whose nodes are in `table`, with n links at `start`.
-fn put_whole(
-    out: &mut [u8],
-    start: Cursor,
-    s: &[u8],
-    table: &[i32],
-    states: &[u8],
-    n: usize,
-) -> usize
-    requires { ⌜ Ready (now s) (now table) (now states) n (3 * n) (start .at) ⌝ }
-    ensures { λ r. ⌜ Put (now (out .entry)) 0 (wholeText (now (states .entry)) (nodesIn (now (table .entry))) (rowsThere (now (s .entry)) (now (table .entry)) (now (states .entry)) n (start .at))) (now (out .exit)) r ⌝ }
+// The sheet whose nodes, states and links' ends are in the tables.
+fn put_whole(out: &mut [u8], table: &[i32], states: &[u8], ends: &[u8], n: usize) -> usize
+    requires { ⌜ Ready (now table) (now states) (now ends) n ⌝ }
+    ensures { λ r. ⌜ Put (now (out .entry)) 0 (tableText (now (table .entry)) (now (states .entry)) (now (ends .entry))) (now (out .exit)) r ⌝ }
 {
     let a = put_clocks(out, 0, table, states);
-    let b = put_links(out, a, start, s, table, states, n);
-    put_room(out, b.past, b.opened, b.whole)
+    let b = put_links(out, a, table, states, ends, n);
+    let q = b.rooms;
+    put_room(out, b.past, q.opened, q.whole)
 }
 
 // The length of the text, or a refusal's number and place: a buffer that is too short is one too. Only where the text fits is anything written.
@@ -194,24 +144,17 @@ pub enum Listed {
 }
 
 // An empty buffer measures the text.
-fn list_whole(
-    start: Cursor,
-    s: &[u8],
-    table: &[i32],
-    states: &[u8],
-    n: usize,
-    text: &mut [u8],
-) -> Listed
-    requires { ⌜ Ready (now s) (now table) (now states) n (3 * n) (start .at) ⌝ }
-    ensures listed { λ r. ⌜ r ≡ fitted (wholeText (now (states .entry)) (nodesIn (now (table .entry))) (rowsThere (now (s .entry)) (now (table .entry)) (now (states .entry)) n (start .at))) (length (now (text .entry))) ⌝ }
-    ensures text { λ _. ⌜ now (text .exit) ≡ over (wholeText (now (states .entry)) (nodesIn (now (table .entry))) (rowsThere (now (s .entry)) (now (table .entry)) (now (states .entry)) n (start .at))) (now (text .entry)) ⌝ }
+fn list_whole(table: &[i32], states: &[u8], ends: &[u8], n: usize, text: &mut [u8]) -> Listed
+    requires { ⌜ Ready (now table) (now states) (now ends) n ⌝ }
+    ensures listed { λ r. ⌜ r ≡ fitted (tableText (now (table .entry)) (now (states .entry)) (now (ends .entry))) (length (now (text .entry))) ⌝ }
+    ensures text { λ _. ⌜ now (text .exit) ≡ over (tableText (now (table .entry)) (now (states .entry)) (now (ends .entry))) (now (text .entry)) ⌝ }
 {
     let mut none = [0u8; 0];
-    let need = put_whole(&mut none, start, s, table, states, n);
+    let need = put_whole(&mut none, table, states, ends, n);
     if text.len() < need {
         return Listed::Refused(reply::SHORT_RESULT, 0);
     }
-    put_whole(text, start, s, table, states, n);
+    put_whole(text, table, states, ends, n);
     Listed::Text(need)
 }
 
@@ -221,14 +164,15 @@ pub fn list(sheet: &[u8], text: &mut [u8]) -> Listed
 {
     let mut table = [0i32; 512];
     let mut states = [0u8; 128];
-    match sheet::read(sheet, &mut table, &mut states) {
+    let mut ends = [0u8; 512];
+    match sheet::read(sheet, &mut table, &mut states, &mut ends) {
         Reading::Refused(number, place) => Listed::Refused(number, place),
         Reading::Whole(f) => {
             let m = f.clocks;
             let n = f.links;
-            let at = f.linkrows;
-            let end = 4 * m;
-            list_whole(Cursor { at }, sheet, &table[..end], &states[..m], n, text)
+            let nodes = 4 * m;
+            let pairs = 2 * n;
+            list_whole(&table[..nodes], &states[..m], &ends[..pairs], n, text)
         }
     }
 }

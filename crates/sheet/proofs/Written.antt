@@ -30,18 +30,21 @@ total-more (y ∷ xs) x = omega (arith, total-more xs x)
 sum-more : (f : Row → ℕ) (rs : List Row) (r : Row) → total (map f (rs ++ (r ∷ []))) ≡ total (map f rs) + f r
 sum-more f rs r = ap total (map-more f rs r) ∙ total-more (map f rs) (f r)
 
--- ---- numbers of so many for each, written one after another over o: those of i are there, and what follows is as it was
-module _ {A : Type 0} (f : A → List ℤ) (w : ℕ) (wide : (x : A) → length (f x) ≡ w) (o : List ℤ) where
+-- ---- so many numbers for each
+module _ {A : Type 0} (f : A → List ℤ) where
   flatten-more : (xs : List A) (x : A) → flatten f (xs ++ (x ∷ [])) ≡ flatten f xs ++ f x
   unfolding flatten
   flatten-more [] x = append-nil (f x)
   flatten-more (y ∷ xs) x = ap (λ (l : List ℤ). f y ++ l) (flatten-more xs x) ∙ sym (append-assoc (f y) (flatten f xs) (f x))
 
-  pub flatten-length : (xs : List A) → length (flatten f xs) ≡ w * length xs
+  pub flatten-length : (w : ℕ) → ((x : A) → length (f x) ≡ w) → (xs : List A) → length (flatten f xs) ≡ w * length xs
   unfolding flatten
-  flatten-length [] = sym (mul-zero w)
-  flatten-length (x ∷ xs) = length-append (f x) (flatten f xs) ∙ ap₂ (λ (a b : ℕ). a + b) (wide x) (flatten-length xs) ∙ omega (arith, mul-suc w (length xs))
+  flatten-length w wide [] = sym (mul-zero w)
+  flatten-length w wide (x ∷ xs) =
+      length-append (f x) (flatten f xs) ∙ ap₂ (λ (a b : ℕ). a + b) (wide x) (flatten-length w wide xs) ∙ omega (arith, mul-suc w (length xs))
 
+-- written one after another over o: those of i are there, and what follows is as it was
+module _ {A : Type 0} (f : A → List ℤ) (w : ℕ) (wide : (x : A) → length (f x) ≡ w) (o : List ℤ) where
   pub record Written (i : ℕ) (xs : List A) (l : List ℤ) : Type 0 where
     pub front : take (w * i) l ≡ flatten f xs
     pub back : drop (w * i) l ≡ drop (w * i) o
@@ -56,7 +59,7 @@ module _ {A : Type 0} (f : A → List ℤ) (w : ℕ) (wide : (x : A) → length 
       let lead : length (take (w * i) l ++ f x) ≡ w * i + w = length-append (take (w * i) l) (f x) ∙ ap₂ (λ (a b : ℕ). a + b) (length-take-le (w * i) l (omega arith)) (wide x) in
       let is : l′ ≡ (take (w * i) l ++ f x) ++ drop (w * i + length (f x)) l = e ∙ sets-eq (f x) l (w * i) (omega (arith, wide x)) in
       record {
-        front = rw (next, is) (take-at (take (w * i) l ++ f x) _ (w * i + w) lead ∙ ap (λ (y : List ℤ). y ++ f x) (h .front) ∙ sym (flatten-more xs x));
+        front = rw (next, is) (take-at (take (w * i) l ++ f x) _ (w * i + w) lead ∙ ap (λ (y : List ℤ). y ++ f x) (h .front) ∙ sym (flatten-more f xs x));
         back =
             rw (next, is)
             (drop-at (take (w * i) l ++ f x) _ (w * i + w) lead

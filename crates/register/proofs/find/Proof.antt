@@ -3,49 +3,35 @@ use mathlib.Core.Path.{_≡_}
 use native.Mathlib.Omega.{arith}
 use denote.Ref.{now}
 use borrow.Author.Needs.{needs}
+use Rattle.field.specs.Spelling.{AllBytes}
 use Rattle.field.proofs.Spelling.{end}
 use Rattle.sheet.specs.Locating.{clockPlace}
 use Rattle.register.proofs.Finds.{Chosen, find-refused, find-absent, find-chosen, before-it, behind-state, find-there}
 use Rattle.register.proofs.find.Statement.{statement}
 use Rattle.register.proofs.find.Tie as tie
-use Rattle.register.proofs.find.Reads as reads
-use Rattle.register.proofs.find.Lts as lts
-use Rattle.register.proofs.locate.Reads as locate-reads
-use Rattle.register.proofs.past.Reads as past-reads
 
-slice-aggregate-read : tie.Need-slice-aggregate-read
-slice-aggregate-read c = search needs
+-- what was read, and the bytes
+module _ (c : tie.After-known-told2) where
+  abbrev after-read : tie.After-read
+  after-read = c .before .before .before .before .before .before
 
-slice-aggregate-read-2 : tie.Need-slice-aggregate-read-2
-slice-aggregate-read-2 c = search needs
+  abbrev start : tie.Start
+  start = c .before .before .before .before .before .before .before .before .before .before .before
 
-read-requires : tie.Need-read-requires
-read-requires c κs = search needs
-
-enum-known-number : tie.Need-enum-known-number
-enum-known-number c = search needs
-
-enum-known-found : tie.Need-enum-known-found
-enum-known-found c = search needs
-
-returns : tie.Need-returns
-returns c =
-    let r = c .before .before .before .before .before .before .before in
-    let a = r .before .before .before in
-    find-absent (now (a .before .args .s)) (r .read .result) (r .read .ensures .0) (λ j. a .shared-slice-known .given j .fits) _ (c .before .before .before .found .given .1) (a .before .args .i) (c .if1 .taken)
+  bytes : AllBytes (now (start .args .s))
+  bytes j = c .before .before .before .before .before .before .before .before .before .before .shared-slice-known .given j .fits
 
 -- the sheet has the clock
-chosen : (c : tie.Else1) → Chosen (now (c .before .before .before .before .before .before .before .before .before .before .before .args .s)) (c .before .before .before .found .given .0 .0 .clockrows) (c .before .before .before .before .before .before .before .before .before .before .before .args .i)
+chosen : (c : tie.Else1) → Chosen (now (start (c .before .before) .args .s)) (c .before .before .before .found .given .0 .0 .clockrows) (start (c .before .before) .args .i)
 chosen c =
-    let r = c .before .before .before .before .before .before .before in
-    let a = r .before .before .before in
-    find-chosen (now (a .before .args .s)) (r .read .result) (r .read .ensures .0) (λ j. a .shared-slice-known .given j .fits) _ (c .before .before .before .found .given .1) (a .before .args .i) (c .if1 .left)
+    let k = c .before .before in
+    find-chosen (now (start k .args .s)) (after-read k .read .result) (after-read k .read .ensures .0) (bytes k) _ (k .before .found .given .1) (start k .args .i) (c .if1 .left)
 
 locate-requires : tie.Need-locate-requires
 locate-requires c κs = (_, before-it (chosen c))
 
 -- it begins where `locate` says
-begins : (c : tie.After-locate) → c .locate .result ≡ clockPlace (chosen (c .before) .opened .sheet) (c .before .before .before .before .before .before .before .before .before .before .before .before .args .i)
+begins : (c : tie.After-locate) → c .locate .result ≡ clockPlace (chosen (c .before) .opened .sheet) (start (c .before .before .before) .args .i)
 begins c = c .locate .ensures (chosen (c .before) .opened .sheet) (before-it (chosen (c .before)))
 
 add-past : tie.Need-add-past
@@ -56,8 +42,8 @@ past-requires c κs = (_, behind-state (chosen (c .before)) (c .locate .result) 
 
 returns-2 : tie.Need-returns-2
 returns-2 c =
-    let r = c .before .before .before .before .before in
-    let a = r .before .before .before .before in
+    let r = c .before .before .before .before .before .before in
+    let a = r .before .before .before .before .before in
     find-refused (now (a .args .s)) (r .read .result) (r .read .ensures .0) (a .args .i) _ _ (c .before .number .given .1)
 
 returns-3 : tie.Need-returns-3
@@ -69,12 +55,13 @@ pub find-spec : {M : Type 1} → statement M
 find-spec =
     tie.close
     (tie.spec
-    slice-aggregate-read
-    slice-aggregate-read-2
-    read-requires
-    enum-known-number
-    enum-known-found
-    returns
+    (λ c. search needs)
+    (λ c. search needs)
+    (λ c. search needs)
+    (λ c κs. search needs)
+    (λ c. search needs)
+    (λ c. search needs)
+    (λ c. let k = c .before .before in find-absent (now (start k .args .s)) (after-read k .read .result) (after-read k .read .ensures .0) (bytes k) _ (k .before .found .given .1) (start k .args .i) (c .if1 .taken))
     locate-requires
     add-past
     past-requires

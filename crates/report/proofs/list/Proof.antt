@@ -7,53 +7,54 @@ use lib.ListN.{length}
 use lib.Seq.{length-take-le}
 use Rattle.field.specs.Read.{Read.got}
 use Rattle.field.specs.Spelling.{AllBytes}
-use Rattle.sheet.specs.Sheet.{clocksMost}
+use Rattle.sheet.specs.Sheet.{clocksMost, linksMost}
 use Rattle.sheet.specs.Reader.{readSheet}
 use Rattle.sheet.specs.Opened.{Opened}
 use Rattle.sheet.specs.Inner.Sections.{foundOf}
-use Rattle.sheet.proofs.Outcome.{reading-refused, reading-whole, clocks-few, ready}
+use Rattle.sheet.proofs.Outcome.{reading-refused, reading-whole, clocks-few, links-few, ready}
 use Rattle.report.proofs.Texts.{listed-refused, listed-whole}
 use borrow.Author.Needs.{needs}
 use Rattle.report.proofs.list.Statement.{statement}
 use Rattle.report.proofs.list.Tie as tie
 
--- the sheet that was read
+-- the sheet that was read, and that its rows are in the tables
 module _ (c : tie.After-known-told2) where
-  whole : (o : Opened) × (d : ℕ) × (readSheet (now (c .before .before .before .before .before .before .before .before .before .before .args .sheet)) ≡ got o d) × (foundOf o ≡ c .before .f .given .0 .0)
-  whole = reading-whole _ _ (sym (c .before .f .given .1) ∙ c .before .before .before .before .before .read .ensures .0)
+  whole : (o : Opened) × (d : ℕ) × (readSheet (now (c .before .before .before .before .before .before .before .before .before .before .before .before .args .sheet)) ≡ got o d) × (foundOf o ≡ c .before .f .given .0 .0)
+  whole = reading-whole _ _ (sym (c .before .f .given .1) ∙ c .before .before .before .before .before .before .read .ensures .0)
 
-  bytes : AllBytes (now (c .before .before .before .before .before .before .before .before .before .before .args .sheet))
-  bytes j = c .before .before .before .before .before .before .before .before .before .shared-slice-known .given j .fits
+  bytes : AllBytes (now (c .before .before .before .before .before .before .before .before .before .before .before .before .args .sheet))
+  bytes j = c .before .before .before .before .before .before .before .before .before .before .before .shared-slice-known .given j .fits
 
   few : c .before .f .given .0 .0 .clocks ≤ clocksMost
   few = clocks-few _ bytes (whole .0) (whole .1) (whole .2) _ (whole .3)
 
-  table-fits : 4 * c .before .f .given .0 .0 .clocks ≤ length (c .before .before .before .before .before .read .last .1 .0)
-  table-fits = omega (arith, few, c .before .before .before .before .before .read .kept .1 .0)
+  few-links : c .before .f .given .0 .0 .links ≤ linksMost
+  few-links = links-few _ bytes (whole .0) (whole .1) (whole .2) _ (whole .3)
 
-  states-fit : c .before .f .given .0 .0 .clocks ≤ length (c .before .before .before .before .before .read .last .1 .1 .0)
-  states-fit = omega (arith, few, c .before .before .before .before .before .read .kept .1 .1 .0)
+  table-fits : 4 * c .before .f .given .0 .0 .clocks ≤ length (c .before .before .before .before .before .before .read .last .1 .0)
+  table-fits = omega (arith, few, c .before .before .before .before .before .before .read .kept .1 .0)
 
-slice-aggregate-list-whole : tie.Need-slice-aggregate-list-whole
-slice-aggregate-list-whole c = sym (length-take-le _ _ (table-fits (c .before)))
+  states-fit : c .before .f .given .0 .0 .clocks ≤ length (c .before .before .before .before .before .before .read .last .1 .1 .0)
+  states-fit = omega (arith, few, c .before .before .before .before .before .before .read .kept .1 .1 .0)
 
-slice-aggregate-list-whole-2 : tie.Need-slice-aggregate-list-whole-2
-slice-aggregate-list-whole-2 c = sym (length-take-le _ _ (states-fit (c .before .before)))
+  ends-fit : 2 * c .before .f .given .0 .0 .links ≤ length (c .before .before .before .before .before .before .read .last .1 .1 .1 .0)
+  ends-fit = omega (arith, few-links, c .before .before .before .before .before .before .read .kept .1 .1 .1 .0)
 
 list-whole-requires : tie.Need-list-whole-requires
 list-whole-requires c κs =
-    let d = c .before .before .before in
-    let w = whole d in
-    ready _ (bytes d) (w .0) (w .1) (w .2) _ (w .3) _ _ (d .before .before .before .before .before .read .ensures .1) _ (omega arith)
+    let k = c .before .before .before .before in
+    let w = whole k in
+    ready _ (bytes k) (w .0) (w .1) (w .2) _ (w .3) _ _ _ (k .before .before .before .before .before .before .read .ensures .1)
 
 returns : tie.Need-returns
-returns c = listed-refused _ _ _ _ (reading-refused _ _ _ (sym (c .before .number .given .1) ∙ c .before .before .before .before .before .read .ensures .0))
+returns c = listed-refused _ _ _ _ (reading-refused _ _ _ (sym (c .before .number .given .1) ∙ c .before .before .before .before .before .before .read .ensures .0))
 
 returns-2 : tie.Need-returns-2
 returns-2 c =
-    let d = c .before .before .before .before .before .before in
-    let w = whole d in
-    listed-whole _ _ (bytes d) (w .0) (w .1) (w .2) _ (w .3) _ _ (d .before .before .before .before .before .read .ensures .1) _ _ (c .before .before .list-whole .ensures)
+    let l = c .before .before in
+    let k = l .before .before .before .before .before in
+    let w = whole k in
+    listed-whole _ _ (bytes k) (w .0) (w .1) (w .2) _ (w .3) _ _ _ (k .before .before .before .before .before .before .read .ensures .1) _ _ (l .list-whole .ensures)
 
 pub list-spec : {M : Type 1} → statement M
 list-spec =
@@ -61,14 +62,18 @@ list-spec =
     (tie.spec
     (λ c. search needs)
     (λ c. search needs)
+    (λ c. search needs)
     (λ c κs. search needs)
     (λ c. search needs)
     (λ c. search needs)
     (λ c. record { fits = omega (arith, few c) })
+    (λ c. record { fits = omega (arith, few-links c) })
     table-fits
-    slice-aggregate-list-whole
+    (λ c. sym (length-take-le _ _ (table-fits (c .before))))
     (λ c. states-fit (c .before))
-    slice-aggregate-list-whole-2
+    (λ c. sym (length-take-le _ _ (states-fit (c .before .before))))
+    (λ c. ends-fit (c .before .before))
+    (λ c. sym (length-take-le _ _ (ends-fit (c .before .before .before))))
     list-whole-requires
     returns
     (λ c. search needs)

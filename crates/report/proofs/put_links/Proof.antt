@@ -1,52 +1,65 @@
--- `put_links` meets its contract: the links so far are put and summed up, and the others stand at the cursor. Assumes nothing.
-use mathlib.Core.Path.{_≡_}
-use Prim.Native.Nat.{_-_, _≤_}
+-- `put_links` meets its contract: the links so far are put and summed up. Assumes nothing.
+use mathlib.Core.Path.{_≡_, refl, sym, ap, _∙_, subst}
+use Prim.Native.Nat.{ℕ, _-_, _*_, _≤_}
 use native.Mathlib.Omega.{arith}
 use borrow.Author.Needs.{needs}
 use denote.Ref.{now}
+use lib.ListN.{length}
 use Rattle.link.specs.Link.{sizeIn}
-use Rattle.sheet.proofs.LinkRows.{open-most}
+use Rattle.expression.specs.Inner.Nodes.{nodesIn}
+use Rattle.sheet.specs.Inner.Sections.{linksOf, roomsOver}
+use Rattle.sheet.proofs.LinkTable.{links-many, next-link}
+use Rattle.sheet.proofs.Written.{Summed, summed-none, row-few, summed-more, rows-all}
 use Rattle.line.proofs.Puts.{going-length}
-use Rattle.report.proofs.LinkRows.{Going, Stepped, stepped, stepped-small, going-none, going-more, going-all}
+use Rattle.report.proofs.LinkRows.{Going, going-more, going-all}
 use Rattle.report.proofs.put_links.Statement.{statement}
 use Rattle.report.proofs.put_links.Tie as tie
 
 abbrev Inv-loop : tie.InvT-loop
-Inv-loop out₀ place s table states n c₀ at₀ i₀ opened₀ whole₀ out c at i opened whole = (i ≤ n) × Going s table states n (c₀ .at) out₀ place i (c .at) out at opened whole
+Inv-loop out₀ start table states ends n at₀ i₀ rooms₀ out at i rooms =
+    (i ≤ n)
+    × ((pairs : length ends ≡ 2 * n) → Going (nodesIn table) states ends n pairs out₀ start i out at)
+    × Summed (nodesIn table) states (linksOf ends) i rooms
 
 abbrev μ-loop : tie.MeasureT-loop
-μ-loop out₀ place s table states n c₀ at₀ i₀ opened₀ whole₀ out c at i opened whole = n - i
+μ-loop out₀ start table states ends n at₀ i₀ rooms₀ out at i rooms = n - i
 
-link-row-requires : tie.Need-link-row-requires Inv-loop μ-loop
-link-row-requires c κs = let p = c .before .before .before .before .before .pre in
-    record { table = p .table; many = p .many; few = p .few-clocks }
+-- the size of the link's row
+small : (c : tie.After-row Inv-loop μ-loop) → sizeIn (c .row .result .verdict) ≤ 3000000000
+small c =
+    let a = c .before .before .before .before .before .before .before in
+    row-few (nodesIn (now (a .args .table))) (now (a .args .states)) (linksOf (now (a .args .ends))) (a .pre .table .taken) _ _ (c .row .ensures)
 
--- the link that was read, and its size
-one : (c : tie.After-link-row Inv-loop μ-loop) → Stepped (now (c .before .before .before .before .before .before .args .s)) (now (c .before .before .before .before .before .before .args .table)) (now (c .before .before .before .before .before .before .args .states)) (c .before .before .before .before .before .before .args .n) (c .before .before .loop .inv .1 .left) (c .link-row .result)
-one c = stepped _ _ _ _ (c .before .before .loop .inv .1 .left) (c .before .loop-test .taken) (c .link-row .result) (c .link-row .ensures)
-
-small : (c : tie.After-link-row Inv-loop μ-loop) → sizeIn (c .link-row .result .row .verdict) ≤ 3000000000
-small c = stepped-small _ _ _ _ _ (c .link-row .result) (one c) (c .before .before .before .before .before .before .pre .table .taken)
-
-add-opened : tie.Need-add-opened Inv-loop μ-loop
-add-opened c =
-    let r = c .before .before .before .before .before .before in
-    record { fits = omega (arith, r .before .before .loop .inv .1 .open-few, c .open-size .ensures, open-most (r .link-row .result .row), small r, r .before .before .before .before .before .before .pre .few-links) }
-
-add-whole : tie.Need-add-whole Inv-loop μ-loop
-add-whole c =
-    let r = c .before .before .before .before .before .before .before in
-    record { fits = omega (arith, r .before .before .loop .inv .1 .whole-few, c .size .ensures, small r, r .before .before .before .before .before .before .pre .few-links) }
+plus-requires : tie.Need-plus-requires Inv-loop μ-loop
+plus-requires c κs =
+    let r = c .before .before .before .before in
+    let l = r .before .before in
+    let few = l .before .before .before .before .before .pre .few-links in
+    let more = r .before .loop-test .taken in
+    (small r, omega (arith, l .loop .inv .2 .open-few, few, more), omega (arith, l .loop .inv .2 .whole-few, few, more))
 
 loop-again : tie.Need-loop-again Inv-loop μ-loop
 loop-again c =
-    let r = c .before .before .before .before .before .before .before .before in
-    (omega arith, going-more _ _ _ _ _ (r .before .before .loop .inv .1) (r .link-row .result) (one r) (r .before .before .before .before .before .before .pre .table .taken) _ _ _ _ (c .before .before .before .before .before .put-link .ensures) (c .before .before .open-size .ensures) (c .before .size .ensures))
+    let p = c .before .before .before in
+    let r = p .before .before in
+    let l = r .before .before in
+    let a = l .before .before .before .before .before in
+    let more = r .before .loop-test .taken in (
+      omega arith,
+      λ pairs. going-more (nodesIn (now (a .args .table))) (now (a .args .states)) (now (a .args .ends)) (a .args .n) pairs _ _ _ _ _ _ _ (l .loop .inv .1 pairs) more (r .row .result) (r .row .ensures) (p .put-link .ensures),
+      summed-more _ _ _ _ _ _ (l .loop .inv .2) (a .pre .table .taken) _ (r .row .result) (next-link (a .args .n) (now (a .args .ends)) (a .pre .pairs) (l .loop .i) more) (r .row .ensures) (c .plus .ensures),
+    )
 
 returns : tie.Need-returns Inv-loop μ-loop
 returns c =
-    let done : c .before .loop .i ≡ c .before .before .before .before .before .args .n = omega arith in
-    going-all _ _ _ _ _ (c .before .loop .inv .1) done
+    let l = c .before in
+    let a = l .before .before .before .before .before in
+    let done : l .loop .i ≡ a .args .n = omega arith in
+    let many = links-many (a .args .n) (now (a .args .ends)) (a .pre .pairs) ∙ sym done in
+    record {
+      lines = going-all (nodesIn (now (a .args .table))) (now (a .args .states)) (now (a .args .ends)) (a .args .n) (a .pre .pairs) _ _ _ _ _ (l .loop .inv .1 (a .pre .pairs)) done;
+      sums = l .loop .inv .2 .sums ∙ ap roomsOver (rows-all (nodesIn (now (a .args .table))) (now (a .args .states)) (linksOf (now (a .args .ends))) (l .loop .i) many);
+    }
 
 pub put-links-spec : {M : Type 1} → statement M
 put-links-spec =
@@ -54,15 +67,13 @@ put-links-spec =
     (tie.spec
     Inv-loop
     μ-loop
-    (λ c. (omega arith, going-none _ _ _ _ _ _ _ (c .before .before .before .pre)))
-    link-row-requires
     (λ c κs. tt)
+    (λ c. (omega arith, λ pairs. refl, subst (Summed _ _ _ 0) (sym (c .none .ensures)) (summed-none _ _ _)))
+    (λ c κs. let a = c .before .before .before .before .before .before in (a .args .n, c .loop-test .taken, a .pre))
     (λ c κs. tt)
-    add-opened
-    (λ c κs. tt)
-    add-whole
-    (λ c. search needs)
-    (λ c. search needs)
+    plus-requires
+    (λ c. omega arith)
+    (λ c. omega arith)
     loop-again
-    (λ c. going-length _ _ _ _ (c .before .loop .inv .1 .lines))
+    (λ c. let l = c .before in going-length _ _ _ _ (l .loop .inv .1 (l .before .before .before .before .before .pre .pairs)))
     returns)

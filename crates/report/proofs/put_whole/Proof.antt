@@ -8,10 +8,17 @@ use Rattle.report.proofs.put_whole.Tie as tie
 
 returns : tie.Need-returns
 returns c =
-    let a = c .before .before .before .before .before .before .before .before .before .before .before .before .before .before .before .args in
-    whole-put (now (a .states)) (nodesIn (now (a .table))) _ _ _ _ _ _ _ _ (c .before .before .before .before .before .before .put-links .result) (c .before .before .before .before .before .before .before .before .before .before .put-clocks .ensures) (c .before .before .before .before .before .before .put-links .ensures) (c .before .before .put-room .ensures)
+    let l = c .before .before .before .before .before .before .before in
+    let k = l .before .before .before .before in
+    let a = k .before .before .before .before .before .args in
+    whole-put (now (a .states)) (nodesIn (now (a .table))) _ _ _ _ _ _ _ _ (l .put-links .result) (k .put-clocks .ensures) (l .put-links .ensures) (c .before .before .put-room .ensures)
 
 pub put-whole-spec : {M : Type 1} → statement M
 put-whole-spec =
     tie.close
-    (tie.spec (λ c κs. search needs) (λ c κs. search needs) (λ c κs. tt) (λ c. search needs) returns)
+    (tie.spec
+    (λ c κs. let p = c .before .before .before .before .pre in record { table = p .table; many = p .many; few = p .few-clocks })
+    (λ c κs. search needs)
+    (λ c κs. tt)
+    (λ c. search needs)
+    returns)
