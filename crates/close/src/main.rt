@@ -4,8 +4,8 @@ ghost use Prim.Native.Nat.{_≤_};
 ghost use lib.ListN.{length};
 ghost use Rattle.io.specs.Counts.{Counts};
 ghost use Rattle.libc.specs.Io.{Ended};
+use numeral::Number;
 use register::Closing;
-use terminal::Number;
 
 // Room for a path and the ending of its temporary file.
 fn temp_space() -> [u8; 4103]

@@ -1,4 +1,6 @@
 pub mod Puts
 pub mod Digits
 pub mod Signs
+pub mod BitLine
+pub mod HexLine
 pub mod Promise

@@ -1,3 +1,5 @@
 pub mod Letters
 pub mod Text
+pub mod BitLine
+pub mod HexLine
 pub mod Promise

@@ -3,9 +3,9 @@ ghost use mathlib.Core.Path.{_≡_};
 ghost use Prim.Native.Nat.{_+_, _≤_};
 ghost use lib.ListN.{length};
 ghost use Rattle.patterns.specs.Room.{Leaves};
+use numeral::Number;
+use numeral::SignedNumber;
 use pattern::Answer;
-use terminal::Number;
-use terminal::SignedNumber;
 
 // One more than a pattern's most bits: any longer pattern is refused as this one is.
 const TOO_LONG: usize = 4_097;
@@ -43,7 +43,7 @@ fn put_line(out: &mut [u8], at: usize, bits: &[u8]) -> Place
     let n = out.len();
     match with_room(&out[..n], at, bits.len() + 1) {
         Place::Failed => Place::Failed,
-        Place::At(start) => Place::At(terminal::put_bits(out, start, bits)),
+        Place::At(start) => Place::At(line::put_bits(out, start, bits)),
     }
 }
 

@@ -2,7 +2,7 @@
 ghost use mathlib.Core.Path.{_≡_};
 ghost use Prim.Native.Nat.{_≤_};
 ghost use lib.ListN.{length};
-use terminal::Number;
+use numeral::Number;
 
 // Three zeros for each byte of the longest input.
 fn hex_space() -> [u8; 98307]
@@ -15,7 +15,7 @@ fn print_expression(expression: &[u8])
     requires { ⌜ length (now expression) ≤ 32769 ⌝ }
 {
     let mut text = hex_space();
-    let n = terminal::put_hex(&mut text, 0, expression);
+    let n = line::put_hex(&mut text, 0, expression);
     terminal::print(b"quote", &text[..n]);
 }
 

@@ -1,4 +1,1 @@
-pub mod Figures
-pub mod Signs
-pub mod Lines
 pub mod Counted

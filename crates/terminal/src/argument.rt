@@ -3,10 +3,10 @@ ghost use Rattle.io.specs.Counts.{Counts};
 use crate::complaint::complain;
 use crate::complaint::complain_of_argument;
 use crate::input::Input;
-use crate::number::Number;
-use crate::number::SignedNumber;
-use crate::number::natural;
-use crate::number::whole_number;
+use numeral::Number;
+use numeral::SignedNumber;
+use numeral::natural;
+use numeral::whole_number;
 
 // Whether there are from `least` to `most` arguments besides the program's name.
 pub fn has_arguments(program: &[u8], least: usize, most: usize, expected: &[u8]) -> bool {

@@ -2,8 +2,7 @@
 mod argument;
 mod complaint;
 mod input;
-mod number;
-mod text;
+mod outcome;
 
 pub use argument::has_arguments;
 pub use argument::natural_argument;
@@ -16,11 +15,5 @@ pub use input::Input;
 pub use input::read_file;
 pub use input::read_whole;
 pub use input::sheet_space;
-pub use number::Number;
-pub use number::SignedNumber;
-pub use number::natural;
-pub use number::whole_number;
-pub use text::print_closed;
-pub use text::print_refused;
-pub use text::put_bits;
-pub use text::put_hex;
+pub use outcome::print_closed;
+pub use outcome::print_refused;

@@ -4,14 +4,14 @@ use native.Mathlib.Omega.{arith}
 use lib.ListN.{length}
 use lib.Seq.{length-take-le}
 use Rattle.line.proofs.Puts.{put-at}
-use Rattle.terminal.proofs.Lines.{bits-length}
+use Rattle.line.proofs.BitLine.{bits-length}
 use borrow.Author.Needs.{needs}
 use Rattle.patterns.proofs.put_line.Statement.{statement}
 use Rattle.patterns.proofs.put_line.Tie as tie
 use Rattle.patterns.proofs.put_line.Reads as reads
 use Rattle.patterns.proofs.put_line.Lts as lts
 use Rattle.patterns.proofs.with_room.Reads as with-room-reads
-use Rattle.terminal.proofs.put_bits.Reads as put-bits-reads
+use Rattle.line.proofs.put_bits.Reads as put-bits-reads
 
 -- src/main.rt:44:21
 slice-reshare-prefix-with-room : tie.Need-slice-reshare-prefix-with-room

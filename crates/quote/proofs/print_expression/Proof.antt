@@ -3,7 +3,7 @@ use mathlib.Core.Path.{sym}
 use native.Mathlib.Omega.{arith}
 use lib.Seq.{length-take-le}
 use Rattle.line.proofs.Puts.{put-at, put-length}
-use Rattle.terminal.proofs.Lines.{hex-length}
+use Rattle.line.proofs.HexLine.{hex-length}
 use borrow.Author.Needs.{needs}
 use Rattle.quote.proofs.print_expression.Statement.{statement}
 use Rattle.quote.proofs.print_expression.Tie as tie
@@ -11,7 +11,7 @@ use Rattle.quote.proofs.print_expression.Reads as reads
 use Rattle.quote.proofs.print_expression.Lts as lts
 use Rattle.quote.proofs.hex_space.Reads as hex-space-reads
 use Rattle.terminal.proofs.print.Reads as print-reads
-use Rattle.terminal.proofs.put_hex.Reads as put-hex-reads
+use Rattle.line.proofs.put_hex.Reads as put-hex-reads
 
 -- src/main.rt:17:20
 hex-space-requires : tie.Need-hex-space-requires
