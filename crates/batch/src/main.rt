@@ -1,15 +1,15 @@
 // Answers cases from standard input by the entry points, as docs/BATCH.md says.
-mod number;
+mod answer;
 
 ghost use mathlib.Core.Path.{_≡_};
 ghost use Prim.Native.Nat.{_≤_};
 ghost use lib.ListN.{length};
-use number::from_twos;
-use number::half;
-use number::put;
-use number::put_all;
-use number::put_reply;
-use number::whole;
+use answer::put_all;
+use answer::put_reply;
+use field::HALF_64;
+use field::from_twos;
+use field::low_first;
+use field::put_low_first;
 use pattern::Answer;
 use register::Closing;
 use report::Listed;
@@ -77,7 +77,7 @@ fn lend(numbers: &mut [i64], base: u64)
 {
     let mut i: usize = 0;
     while i < numbers.len() {
-        numbers[i] = from_twos(u64::MAX - base - (i as u64));
+        numbers[i] = from_twos(u64::MAX - base - (i as u64), HALF_64);
         i += 1;
     }
 }
@@ -87,10 +87,10 @@ fn put_worked(out: &mut [u8], r: Worked)
     requires { ⌜ 41 ≤ length (now out) ⌝ }
 {
     put_reply(out, r.number, r.place as u64);
-    put(out, 9, 8, r.clocks as u64);
-    put(out, 17, 8, r.links as u64);
-    put(out, 25, 8, r.opened);
-    put(out, 33, 8, r.whole);
+    put_low_first(out, 9, 8, r.clocks as u64);
+    put_low_first(out, 17, 8, r.links as u64);
+    put_low_first(out, 25, 8, r.opened);
+    put_low_first(out, 33, 8, r.whole);
 }
 
 fn worked_out(sheet: &[u8], clocks: &mut [i64], links: &mut [i64], out: &mut [u8]) -> Turn
@@ -110,9 +110,9 @@ fn work_out(body: &mut [u8], out: &mut [u8]) -> Turn
     if !is_read(&mut head, 0, 12) {
         return Turn::Malformed;
     }
-    let a = half(&head, 0) as usize;
-    let b = half(&head, 4) as usize;
-    let n = half(&head, 8) as usize;
+    let a = low_first(&head, 0, 4);
+    let b = low_first(&head, 4, 4);
+    let n = low_first(&head, 8, 4);
     if LENT < a {
         return Turn::Malformed;
     }
@@ -149,8 +149,8 @@ fn close(out: &mut [u8]) -> Turn
     if !is_read(&mut head, 0, 12) {
         return Turn::Malformed;
     }
-    let clock = whole(&head, 0) as usize;
-    let n = half(&head, 8) as usize;
+    let clock = low_first(&head, 0, 8);
+    let n = low_first(&head, 8, 4);
     if BODY < n {
         return Turn::Malformed;
     }
@@ -181,7 +181,7 @@ fn quoted(sheet: &[u8], clock: usize, out: &mut [u8]) -> Turn
 {
     let part = register::quote(sheet, clock);
     put_quoting(out, sheet, clock, part);
-    let end = put(out, REPLY, 4, part.len() as u64);
+    let end = put_low_first(out, REPLY, 4, part.len() as u64);
     let Turn::Answered = sent(out, end) else {
         return Turn::Ended;
     };
@@ -195,8 +195,8 @@ fn quote(body: &mut [u8], out: &mut [u8]) -> Turn
     if !is_read(&mut head, 0, 12) {
         return Turn::Malformed;
     }
-    let clock = whole(&head, 0) as usize;
-    let n = half(&head, 8) as usize;
+    let clock = low_first(&head, 0, 8);
+    let n = low_first(&head, 8, 4);
     if BODY < n {
         return Turn::Malformed;
     }
@@ -244,11 +244,11 @@ fn pattern(op: u8, out: &mut [u8]) -> Turn
     if !is_read(&mut head, 0, 36) {
         return Turn::Malformed;
     }
-    let k = from_twos(whole(&head, 0));
-    let K = from_twos(whole(&head, 8));
-    let l = whole(&head, 16);
-    let n = whole(&head, 24);
-    let m = half(&head, 32) as usize;
+    let k = from_twos(low_first(&head, 0, 8) as u64, HALF_64);
+    let K = from_twos(low_first(&head, 8, 8) as u64, HALF_64);
+    let l = low_first(&head, 16, 8) as u64;
+    let n = low_first(&head, 24, 8) as u64;
+    let m = low_first(&head, 32, 4);
     if BODY < m {
         return Turn::Malformed;
     }
@@ -274,11 +274,11 @@ fn put_listed(out: &mut [u8], listed: Listed)
     match listed {
         Listed::Text(n) => {
             put_reply(out, 0, 0);
-            put(out, REPLY, 8, n as u64);
+            put_low_first(out, REPLY, 8, n as u64);
         }
         Listed::Refused(number, place) => {
             put_reply(out, number, place as u64);
-            put(out, REPLY, 8, 0);
+            put_low_first(out, REPLY, 8, 0);
         }
     }
 }
@@ -290,8 +290,8 @@ fn list(body: &mut [u8], out: &mut [u8]) -> Turn
     if !is_read(&mut head, 0, 8) {
         return Turn::Malformed;
     }
-    let c = half(&head, 0) as usize;
-    let n = half(&head, 4) as usize;
+    let c = low_first(&head, 0, 4);
+    let n = low_first(&head, 4, 4);
     if TEXT < c {
         return Turn::Malformed;
     }

@@ -2,70 +2,39 @@
 use mathlib.Core.Path.{_≡_, refl, sym, ap, ap₂, _∙_}
 use mathlib.Core.Bool.{Bool, true, false, cond}
 use mathlib.Core.List.{List}
-use Prim.Native.Nat.{ℕ, zero, suc, _+_, _-_, _≤_, _<_}
+use Prim.Native.Nat.{ℕ, _+_, _≤_, _<_}
 use native.Mathlib.Omega.{arith}
-use lib.IntN.{ℤ, pos, negsuc, _-ℤ_}
+use lib.IntN.{ℤ, pos, negsuc}
 use lib.Signed.{_≤ℤ_, ltZ}
-use lib.Dec.{ltb}
 use lib.ListN.{length}
 use mir.Syntax.{w64}
 use mir.Val.{toZ, ofZ, SFits}
 use mir.ValLaws.{toZ-ofZ}
-use borrow.Author.Tests.{lt-ltb, le-ltb, ltb-true, ltb-false}
 use Rattle.reply.specs.Numbers.{missing, beyond}
-use Rattle.whole.proofs.Bridge.{orders, signed as signs}
+use Rattle.whole.proofs.Bridge.{apart, orders, signed as signs}
 use Rattle.field.specs.Read.{Read.got, Read.refused}
 use Rattle.field.specs.Spelling.{bytesOf, limit, twos, Small, AllBytes, Bytes}
 use Rattle.field.specs.Field.{lowFirst, fieldAt, signed, signedAt, betweenZ, signedIn}
 use Rattle.field.proofs.Read.{through, cond-left}
 use Rattle.field.proofs.Spelling.{limit4}
+use Rattle.field.proofs.Twos.{by-halves, twos-below as twosBy-below, twos-signed as twosBy-signed, signed-twos as signedBy-twos}
 use Rattle.field.proofs.Fields.{same-field, field-short, field-whole, field-bytes, field-got}
 
--- ---- 32 bits in two's complement
+-- ---- 32 bits in two's complement: four bytes'
+twos-below : (z : ℤ) → Small z → twos z < limit 4
+twos-below z h = omega (arith, limit4, twosBy-below 2147483648 z (omega (arith, orders, apart z)) (omega (arith, orders, apart z)))
 
--- the bits of a number of 32 bits are four bytes'
-pub twos-below : (z : ℤ) → Small z → twos z < limit 4
-unfolding twos
-twos-below (pos n) h = omega (arith, limit4, orders)
-twos-below (negsuc n) h = omega (arith, limit4)
-
--- -1 - m
-pub minus-one : (m : ℕ) → negsuc 0 -ℤ pos m ≡ negsuc m
-minus-one zero = refl
-minus-one (suc m) = ap (λ (k : ℕ). negsuc (suc k)) (omega arith)
-
--- the two halves
-pub signed-low : (v : ℕ) → v < 2147483648 → signed v ≡ pos v
+twos-signed : (v : ℕ) → v < limit 4 → twos (signed v) ≡ v
 unfolding signed
-signed-low v h = rw (lt-ltb v 2147483648 h)
+twos-signed v h = twosBy-signed 2147483648 v (omega (arith, limit4))
 
-pub signed-high : (v : ℕ) → 2147483648 ≤ v → signed v ≡ negsuc (4294967295 - v)
+signed-twos : (z : ℤ) → Small z → signed (twos z) ≡ z
 unfolding signed
-signed-high v h = rw (le-ltb v 2147483648 h)
+signed-twos z h = signedBy-twos 2147483648 z (omega (arith, orders, apart z)) (omega (arith, orders, apart z))
 
--- bits are those of their number, which has 32 bits
-pub twos-signed : (v : ℕ) → v < limit 4 → twos (signed v) ≡ v
-unfolding twos
-twos-signed v h = go (ltb v 2147483648) refl
-  where
-    go : (t : Bool) → ltb v 2147483648 ≡ t → twos (signed v) ≡ v
-    go true e = ap twos (signed-low v (ltb-true v 2147483648 e))
-    go false e = ap twos (signed-high v (ltb-false v 2147483648 e)) ∙ omega (arith, limit4)
-
-pub signed-small : (v : ℕ) → v < limit 4 → Small (signed v)
-signed-small v h = go (ltb v 2147483648) refl
-  where
-    go : (t : Bool) → ltb v 2147483648 ≡ t → Small (signed v)
-    go true e = rw (signed-low v (ltb-true v 2147483648 e)) (record { least = omega (arith, orders); most = omega (arith, orders, ltb-true v 2147483648 e) })
-    go false e = rw (signed-high v (ltb-false v 2147483648 e)) (record { least = omega (arith, orders, ltb-false v 2147483648 e); most = omega (arith, orders) })
-
--- a number is that of its bits
-pub signed-twos : (z : ℤ) → Small z → signed (twos z) ≡ z
-unfolding twos
-signed-twos (pos n) h = signed-low n (omega (arith, orders))
-signed-twos (negsuc n) h =
-    let m : n < 2147483648 = omega (arith, orders) in
-    signed-high (4294967295 - n) (omega arith) ∙ ap negsuc (omega arith)
+signed-small : (v : ℕ) → v < limit 4 → Small (signed v)
+unfolding signed
+signed-small v h = by-halves 2147483648 Small v (λ l. record { least = omega (arith, orders); most = omega (arith, orders) }) (λ l. record { least = omega (arith, orders); most = omega (arith, orders) })
 
 -- ---- a signed field
 

@@ -3,9 +3,10 @@ use mathlib.Core.Path.{_≡_, refl, sym, ap, ap₂, _∙_, subst}
 use mathlib.Core.List.{List, [], _∷_, _++_, append-nil, append-assoc}
 use Prim.Native.Nat.{ℕ, zero, suc, _+_, _-_, _*_, _/_, _%_, _≤_, _<_}
 use native.Mathlib.Nat.{pow-suc, pow-le-pow-right}
+use native.Mathlib.Numerals.{add-one}
 use native.Mathlib.Omega.{arith}
-use lib.ListN.{length, take, drop, length-append}
-use lib.Seq.{drop-cons, take-length, getD-append-seam}
+use lib.ListN.{length, set, take, drop, length-append}
+use lib.Seq.{sets, drop-cons, take-length, getD-append-seam}
 use Rattle.field.specs.Spelling.{bytesOf, limit, Bytes, Bytes.done, Bytes.byte}
 
 module _ {s : List ℕ} where
@@ -105,10 +106,22 @@ pub limit2 : limit 2 ≡ 65536
 unfolding limit
 limit2 = refl
 
-pub limit3 : limit 3 ≡ 16777216
-unfolding limit
-limit3 = refl
-
 pub limit4 : limit 4 ≡ 4294967296
 unfolding limit
 limit4 = refl
+
+pub limit7 : limit 7 ≡ 72057594037927936
+unfolding limit
+limit7 = refl
+
+-- ---- a number put byte by byte: the lowest byte, then the others
+pub lowest-first : (xs : List ℕ) (a w v : ℕ) → 0 < w → sets (set xs a (v % 256)) (a + 1) (bytesOf (w - 1) (v / 256)) ≡ sets xs a (bytesOf w v)
+unfolding bytesOf
+lowest-first xs a zero v h = absurd (omega arith)
+lowest-first xs a (suc w) v h =
+    let e : suc w - 1 ≡ w = omega arith in
+    rw (add-one, e)
+
+pub none-left : (xs : List ℕ) (a v w : ℕ) → w ≡ 0 → sets xs a (bytesOf w v) ≡ xs
+unfolding bytesOf
+none-left xs a v w e = rw e

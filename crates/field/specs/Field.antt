@@ -25,9 +25,13 @@ unfoldable pub fieldIn : ℕ → ℕ → ℕ → ℕ → List ℕ → ℕ → Re
 fieldIn w low high number s a =
     bind (fieldAt w s a) λ v c. cond (leb low v) (cond (ltb v high) (got v c) (refused number a)) (refused number a)
 
--- "signed in two's complement": the number that 32 bits stand for
+-- "signed in two's complement": the number that bits stand for. The first half of what they can spell stand for themselves
+abbrev pub signedBy : ℕ → ℕ → ℤ
+signedBy half v = cond (ltb v half) (pos v) (negsuc (half + half - 1 - v))
+
+-- 32 bits
 unfoldable pub signed : ℕ → ℤ
-signed v = cond (ltb v 2147483648) (pos v) (negsuc (4294967295 - v))
+signed v = signedBy 2147483648 v
 
 -- "k i32, K i32": a signed field has four bytes
 unfoldable pub signedAt : List ℕ → ℕ → Read ℤ

@@ -1,5 +1,4 @@
 -- What reading answers: a piece with the place past it, or a refusal. The order of the checks is written in these words.
-use mathlib.Core.Bool.{Bool, true, false}
 use Prim.Native.Nat.{ℕ}
 
 -- what was read and the place past it; or a refusal's number and its place

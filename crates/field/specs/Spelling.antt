@@ -1,7 +1,7 @@
 -- How numbers are spelled in bytes, and which bytes stand where in a text.
 use mathlib.Core.Path.{_≡_}
 use mathlib.Core.List.{List, [], _∷_}
-use Prim.Native.Nat.{ℕ, zero, suc, _-_, _/_, _%_, _^_, _≤_, _<_}
+use Prim.Native.Nat.{ℕ, zero, suc, _+_, _-_, _/_, _%_, _^_, _≤_, _<_}
 use lib.IntN.{ℤ, pos, negsuc}
 use lib.Signed.{_≤ℤ_}
 use lib.ListN.{length, getD}
@@ -15,10 +15,14 @@ bytesOf (suc w) v = v % 256 ∷ bytesOf w (v / 256)
 unfoldable pub limit : ℕ → ℕ
 limit w = 256 ^ w
 
--- "k and K are signed in two's complement": the 32 bits of z
-unfoldable pub twos : ℤ → ℕ
-twos (pos n) = n
-twos (negsuc n) = 4294967295 - n
+-- "k and K are signed in two's complement": the bits of z, of which the first half spell what is not below 0
+unfoldable pub twosBy : ℕ → ℤ → ℕ
+twosBy half (pos n) = n
+twosBy half (negsuc n) = half + half - 1 - n
+
+-- its 32 bits
+abbrev pub twos : ℤ → ℕ
+twos z = twosBy 2147483648 z
 
 -- the numbers that 32 bits can hold in two's complement, from -2,147,483,648 to 2,147,483,647
 pub record Small (z : ℤ) : Type 0 where

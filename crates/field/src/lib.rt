@@ -1,8 +1,15 @@
-// Fields of a sheet: a cursor by value, whose methods answer a field with the moved cursor, or a refusal with its place.
+// Fields of a sheet: a cursor by value, whose methods answer a field with the moved cursor, or a refusal with its place. And numbers in bytes.
+mod number;
+
 ghost use mathlib.Core.Path.{_≡_};
-ghost use Prim.Native.Nat.{_+_, _≤_, _<_};
-ghost use lib.ListN.{length};
-ghost use Rattle.field.specs.Field.{lowFirst, fieldAt, fieldIn, signed, signedAt, signedIn, fieldOf, signedOf};
+ghost use Prim.Native.Nat.{_≤_};
+ghost use Rattle.field.specs.Field.{fieldAt, fieldIn, signedAt, signedIn, fieldOf, signedOf};
+pub use number::HALF_32;
+pub use number::HALF_64;
+pub use number::from_twos;
+pub use number::low_first;
+pub use number::put_low_first;
+pub use number::to_twos;
 
 pub struct Cursor {
     pub at: usize,
@@ -18,34 +25,6 @@ pub enum Field {
 pub enum Signed {
     Got(i64, Cursor),
     Refused(u8, usize),
-}
-
-// The number that `width` bytes from `at` on spell, the lowest first.
-fn low_first(s: &[u8], at: usize, width: usize) -> usize
-    requires { ⌜ width ≤ 4 ⌝ }
-    requires { ⌜ at + width ≤ length (now s) ⌝ }
-    ensures { λ r. ⌜ r ≡ lowFirst width (now (s .entry)) at ⌝ }
-{
-    let mut v: usize = 0;
-    let mut i = width;
-    while 0 < i {
-        i -= 1;
-        let b = s[at + i] as usize;
-        v = v * 256 + b;
-    }
-    v
-}
-
-// The number that 32 bits stand for in two's complement.
-fn from_twos(v: usize) -> i64
-    requires { ⌜ v < 4294967296 ⌝ }
-    ensures { λ r. ⌜ r ≡ signed v ⌝ }
-{
-    if v < 2147483648 {
-        v as i64
-    } else {
-        -1 - ((4294967295 - v) as i64)
-    }
 }
 
 impl Cursor {
@@ -87,7 +66,7 @@ impl Cursor {
         ensures { λ r. ⌜ signedOf r ≡ signedAt (now (s .entry)) (self .at) ⌝ }
     {
         match self.field(s, 4) {
-            Field::Got(v, c) => Signed::Got(from_twos(v), c),
+            Field::Got(v, c) => Signed::Got(from_twos(v as u64, HALF_32), c),
             Field::Refused(number, place) => Signed::Refused(number, place),
         }
     }

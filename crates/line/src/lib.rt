@@ -3,7 +3,6 @@ mod bits;
 mod hex;
 
 ghost use mathlib.Core.Path.{_≡_};
-ghost use lib.IntN.{natAbs};
 ghost use Rattle.line.specs.Text.{outOf, putOne, putField, putLine, Put, digits, decimal, outcomeFields};
 pub use bits::put_bits;
 pub use hex::put_hex;
@@ -51,21 +50,11 @@ pub fn put_digits(out: &mut [u8], at: usize, x: u64) -> usize
     put_byte(out, next, (48 + x % 10) as u8)
 }
 
-// How far z is from 0: one step nearer first, since the least number has no opposite.
-fn magnitude(z: i64) -> u64
-    ensures { λ r. ⌜ r ≡ natAbs z ⌝ }
-{
-    if z < 0 {
-        return (-1 - z) as u64 + 1;
-    }
-    z as u64
-}
-
 // A number of either sign.
 pub fn put_decimal(out: &mut [u8], at: usize, z: i64) -> usize
     ensures { λ r. ⌜ Put (now (out .entry)) at (decimal z) (now (out .exit)) r ⌝ }
 {
-    let m = magnitude(z);
+    let m = whole::magnitude(z);
     if z < 0 {
         let next = put_byte(out, at, MINUS);
         return put_digits(out, next, m);

@@ -1,16 +1,15 @@
 -- A number with a sign before it, as the machine computes it. Assumes nothing.
-use mathlib.Core.Path.{_≡_, refl, _∙_, ap, subst⁻¹}
+use mathlib.Core.Path.{_≡_, refl}
 use mathlib.Core.List.{List, [], _∷_}
 use Prim.Native.Nat.{ℕ, zero, suc, _-_, _^_, _≤_, _<_}
 use native.Mathlib.Omega.{arith}
 use borrow.Author.Tests.{lt-ltb, le-ltb, eq-eqb, ne-eqb}
-use lib.IntN.{ℤ, pos, negsuc, _-ℤ_}
+use lib.IntN.{pos, negsuc}
 use lib.ListN.{length, getD, take, drop}
 use lib.Seq.{take-all}
 use mir.Syntax.{w64}
-use mir.Val.{SFits, toZ, ofZ}
-use Rattle.whole.proofs.Bridge.{diff, whole-ext}
-use Rattle.whole.proofs.Machine.{held, fits-by, back-by}
+use mir.Val.{toZ}
+use Rattle.whole.proofs.Machine.{held}
 use Rattle.line.specs.Text.{minus}
 use Rattle.numeral.specs.declared.Number.{Number}
 use Rattle.numeral.specs.declared.SignedNumber.{SignedNumber}
@@ -22,25 +21,13 @@ plus-fits v h = rw (held v h, lt-ltb v (2 ^ 63) h)
 pub plus-outgrows : (v : ℕ) → 2 ^ 63 ≤ v → SignedNumber.TooLarge ≡ positive (Number.Is v)
 plus-outgrows v h = rw (le-ltb v (2 ^ 63) h)
 
-below : (m : ℕ) → negsuc 0 -ℤ pos m ≡ negsuc m
-below m = whole-ext (omega (arith, diff (negsuc 0) (pos m)))
-
 -- -1 - (v - 1), where v is not 0
-pub record Negated (v : ℕ) : Type 0 where
-  pub holds : SFits w64 (negsuc 0 -ℤ toZ w64 (v - 1))
-  pub is : SignedNumber.Is (toZ w64 (ofZ w64 (negsuc 0 -ℤ toZ w64 (v - 1)))) ≡ negative (Number.Is v)
-
-pub negated : (v : ℕ) → (v ≡ 0 → ⊥) → v ≤ 2 ^ 63 → Negated v
-negated zero h k = absurd (h refl)
-negated (suc m) h k =
+pub minus-fits : (v : ℕ) → (v ≡ 0 → ⊥) → v ≤ 2 ^ 63 → SignedNumber.Is (negsuc (v - 1)) ≡ negative (Number.Is v)
+minus-fits zero h k = absurd (h refl)
+minus-fits (suc m) h k =
     let before : suc m - 1 ≡ m = omega arith in
     let small : m < 2 ^ 63 = omega arith in
-    let is : toZ w64 (suc m - 1) ≡ pos m = ap (toZ w64) before ∙ held m small in
-    let fits : SFits w64 (negsuc 0 -ℤ pos m) = subst⁻¹ (λ (y : ℤ). SFits w64 y) (below m) (record { sfits = small }) in
-    record {
-      holds = fits-by _-ℤ_ {u = negsuc 0} {x = negsuc 0} refl is fits;
-      is = rw (back-by _-ℤ_ {u = negsuc 0} {x = negsuc 0} refl is fits, below m, lt-ltb m (2 ^ 63) small);
-    }
+    rw (before, lt-ltb m (2 ^ 63) small)
 
 pub minus-nothing : (v : ℕ) → v ≡ 0 → SignedNumber.Is (pos 0) ≡ negative (Number.Is v)
 minus-nothing v e = rw e

@@ -1,7 +1,7 @@
 -- Laws of division rounded down and up, and how the machine's quotient, which is rounded toward 0, gives both.
 -- Assumes nothing.
 use mathlib.Core.Path.{_≡_, sym, ap, _∙_}
-use Prim.Native.Nat.{ℕ, zero, suc, _+_, _-_, _*_, _/_, _%_, _≤_, _<_}
+use Prim.Native.Nat.{ℕ, zero, suc, _+_, _*_, _/_, _%_, _≤_, _<_}
 use native.Mathlib.Nat.{div-add-mod', mod-lt, suc-mul, add-mul, mul-le-mul-right, lt-of-mul-lt-mul-right, zero-mul, one-mul, div-le-self, zero-div}
 use native.Mathlib.Omega.{arith}
 use lib.IntN.{ℤ, pos, negsuc, negℤ, _+ℤ_, _-ℤ_, _*ℤ_}

@@ -1,6 +1,7 @@
-// Whole numbers: division with its rounding, the larger and the smaller of two, and Euclid's method.
+// Whole numbers: division with its rounding, the larger and the smaller of two, how far one is from 0, and Euclid's method.
 ghost use mathlib.Core.Path.{_≡_};
 ghost use Prim.Native.Nat.{_<_, _^_};
+ghost use lib.IntN.{natAbs};
 ghost use Rattle.whole.specs.Rounding.{floorDiv, ceilDiv};
 ghost use Rattle.whole.specs.Order.{larger, smaller};
 ghost use Rattle.whole.specs.Euclid.{gcdOf};
@@ -35,6 +36,16 @@ pub fn smaller_of(x: i64, y: i64) -> i64
     ensures { λ r. ⌜ r ≡ smaller x y ⌝ }
 {
     if x < y { x } else { y }
+}
+
+// How far z is from 0: one step nearer first, since the least number has no opposite.
+pub fn magnitude(z: i64) -> u64
+    ensures { λ r. ⌜ r ≡ natAbs z ⌝ }
+{
+    if z < 0 {
+        return (-1 - z) as u64 + 1;
+    }
+    z as u64
 }
 
 // The greatest common divisor of a and b, by Euclid's remainders.

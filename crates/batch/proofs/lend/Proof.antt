@@ -22,7 +22,7 @@ sub-from-twos-2 : tie.Need-sub-from-twos-2 Inv-loop μ-loop
 sub-from-twos-2 c = omega arith
 
 from-twos-requires : tie.Need-from-twos-requires Inv-loop μ-loop
-from-twos-requires c κs = tt
+from-twos-requires c κs = omega arith
 
 mul-t4 : tie.Need-mul-t4 Inv-loop μ-loop
 mul-t4 c = omega arith

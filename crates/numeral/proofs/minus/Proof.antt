@@ -1,15 +1,20 @@
 -- `minus` meets its contract. Assumes nothing.
+use Prim.Native.Nat.{_-_}
 use native.Mathlib.Omega.{arith}
 use borrow.Author.Needs.{needs}
-use Rattle.numeral.proofs.Signs.{Negated, negated, minus-nothing, minus-outgrows}
+use lib.IntN.{negsuc}
+use mir.Syntax.{w64}
+use mir.Val.{toZ}
+use Rattle.whole.proofs.Signs.{Turned, opposite}
+use Rattle.numeral.proofs.Signs.{minus-nothing, minus-fits, minus-outgrows}
 use Rattle.numeral.proofs.minus.Statement.{statement}
 use Rattle.numeral.proofs.minus.Tie as tie
 use Rattle.numeral.proofs.minus.Reads as reads
 use Rattle.numeral.proofs.minus.Lts as lts
 
 -- what the branch of a number that is not 0 computes
-near : (c : lts.Then2 reads.Pre reads.Post) → Negated (c .before .before .before .number .given .0 .0)
-near c = negated (c .before .before .before .number .given .0 .0) (c .before .if1 .left) (c .if2 .taken)
+near : (c : lts.Then2 reads.Pre reads.Post) → Turned (toZ w64 (c .before .before .before .number .given .0 .0 - 1)) (negsuc (c .before .before .before .number .given .0 .0 - 1))
+near c = opposite (c .before .before .before .number .given .0 .0 - 1) (omega arith)
 
 enum-told : tie.Need-enum-told
 enum-told c = search needs
@@ -41,7 +46,9 @@ returns-3 : tie.Need-returns-3
 returns-3 c = search needs
 
 returns-4 : tie.Need-returns-4
-returns-4 c = rw (c .before .before .before .number .given .1) (near c .is)
+returns-4 c =
+    let d = c .before .before .before in
+    rw (d .number .given .1, near c .back) (minus-fits (d .number .given .0 .0) (c .before .if1 .left) (c .if2 .taken))
 
 returns-5 : tie.Need-returns-5
 returns-5 c =

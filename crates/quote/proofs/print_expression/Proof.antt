@@ -7,11 +7,6 @@ use Rattle.line.proofs.HexLine.{hex-length}
 use borrow.Author.Needs.{needs}
 use Rattle.quote.proofs.print_expression.Statement.{statement}
 use Rattle.quote.proofs.print_expression.Tie as tie
-use Rattle.quote.proofs.print_expression.Reads as reads
-use Rattle.quote.proofs.print_expression.Lts as lts
-use Rattle.quote.proofs.hex_space.Reads as hex-space-reads
-use Rattle.terminal.proofs.print.Reads as print-reads
-use Rattle.line.proofs.put_hex.Reads as put-hex-reads
 
 -- src/main.rt:17:20
 hex-space-requires : tie.Need-hex-space-requires

@@ -2,7 +2,6 @@
 -- Assumes nothing.
 use mathlib.Core.Path.{_≡_, refl, sym, ap, _∙_}
 use native.Mathlib.Nat.{mod-lt, pos-of-ne-zero}
-use native.Mathlib.Omega.{arith}
 use Rattle.whole.specs.Euclid.{gcdOf}
 use Rattle.whole.proofs.Euclid.{gcd-zero, gcd-step}
 use Rattle.whole.proofs.gcd.Statement.{statement}

@@ -6,7 +6,7 @@ use lib.IntN.{ℤ}
 use denote.Ref.{now}
 use Rattle.whole.proofs.Machine.{told}
 use Rattle.field.specs.Read.{Read.got}
-use Rattle.field.specs.Field.{fieldOf, signedAt}
+use Rattle.field.specs.Field.{fieldOf, signed, signedAt}
 use Rattle.field.proofs.Spelling.{limit4}
 use Rattle.field.proofs.Fields.{field-bytes}
 use Rattle.field.proofs.Cursor.signed.Statement.{statement}
@@ -29,7 +29,7 @@ enum-known-number : tie.Need-enum-known-number
 enum-known-number c = search needs
 
 returns : tie.Need-returns
-unfolding signedAt
+unfolding signedAt signed
 returns c =
     rw (← c .before .before .before .before .field .ensures, c .before .before .v .given .1)
     (ap (λ (z : ℤ). got z (c .before .before .v .given .0 .1 .0 .at)) (told _ (c .from-twos .ok) ∙ c .from-twos .ensures))

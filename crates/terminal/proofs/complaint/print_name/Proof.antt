@@ -8,11 +8,6 @@ use lib.ListN.{length, length-set}
 use lib.Seq.{length-take-le}
 use Rattle.terminal.proofs.complaint.print_name.Statement.{statement}
 use Rattle.terminal.proofs.complaint.print_name.Tie as tie
-use Rattle.terminal.proofs.complaint.print_name.Reads as reads
-use Rattle.terminal.proofs.complaint.print_name.Lts as lts
-use Rattle.io.proofs.buffer.Reads as buffer-reads
-use Rattle.io.proofs.write_all.Reads as write-all-reads
-use Rattle.terminal.proofs.complaint.shown.Reads as shown-reads
 
 abbrev Inv-loop : tie.InvT-loop
 Inv-loop name text₀ i₀ text i = (i ≤ 4096) × (length text ≡ 4096)

@@ -7,10 +7,6 @@ use lib.ListN.{length}
 use Rattle.terminal.proofs.Counted.{counted}
 use Rattle.terminal.proofs.input.read_whole.Statement.{statement}
 use Rattle.terminal.proofs.input.read_whole.Tie as tie
-use Rattle.terminal.proofs.input.read_whole.Reads as reads
-use Rattle.terminal.proofs.input.read_whole.Lts as lts
-use Rattle.io.proofs.count.Reads as count-reads
-use Rattle.libc.proofs.read.Reads as read-reads
 
 abbrev Inv-loop : tie.InvT-loop
 Inv-loop fd bytes₀ done₀ bytes done = (done ≤ length bytes) × (length bytes ≡ length bytes₀)

@@ -3,10 +3,8 @@ use mathlib.Core.Path.{_≡_, refl}
 use Prim.Native.Nat.{_+_, _*_, _-_, _≤_}
 use native.Mathlib.Omega.{arith}
 use lib.ListN.{length}
-use Rattle.batch.proofs.number.put_all.Statement.{statement}
-use Rattle.batch.proofs.number.put_all.Tie as tie
-use Rattle.batch.proofs.number.put_all.Reads as reads
-use Rattle.batch.proofs.number.put_all.Lts as lts
+use Rattle.batch.proofs.answer.put_all.Statement.{statement}
+use Rattle.batch.proofs.answer.put_all.Tie as tie
 
 abbrev Inv-loop : tie.InvT-loop
 Inv-loop out₀ start numbers at₀ i₀ out at i = (i ≤ length numbers) × (at ≡ start + 8 * i) × (length out ≡ length out₀)
@@ -26,8 +24,8 @@ shared-slice-copy-out-to-twos c = omega arith
 to-twos-requires : tie.Need-to-twos-requires Inv-loop μ-loop
 to-twos-requires c κs = tt
 
-put-requires : tie.Need-put-requires Inv-loop μ-loop
-put-requires c κs = omega arith
+put-low-first-requires : tie.Need-put-low-first-requires Inv-loop μ-loop
+put-low-first-requires c κs = omega arith
 
 add-i : tie.Need-add-i Inv-loop μ-loop
 add-i c = omega arith
@@ -54,7 +52,7 @@ put-all-spec =
     mul-to-twos
     shared-slice-copy-out-to-twos
     to-twos-requires
-    put-requires
+    put-low-first-requires
     add-i
     loop-less
     loop-again

@@ -3,27 +3,27 @@ use mathlib.Core.Path.{ap}
 use native.Mathlib.Omega.{arith}
 use borrow.Author.Needs.{needs}
 use lib.IntN.{natAbs}
-use Rattle.line.proofs.Signs.{Nearer, nearer, cast-fits, cast-above}
-use Rattle.line.proofs.magnitude.Statement.{statement}
-use Rattle.line.proofs.magnitude.Tie as tie
-use Rattle.line.proofs.magnitude.Reads as reads
-use Rattle.line.proofs.magnitude.Lts as lts
+use Rattle.whole.proofs.Signs.{Nearer, nearer, cast-fits, cast-above}
+use Rattle.whole.proofs.magnitude.Statement.{statement}
+use Rattle.whole.proofs.magnitude.Tie as tie
+use Rattle.whole.proofs.magnitude.Reads as reads
+use Rattle.whole.proofs.magnitude.Lts as lts
 
 -- what the branch of a negative number computes
 near : (c : lts.Then1 reads.Pre reads.Post) → Nearer (c .before .args .z)
 near c = nearer (c .before .args .z) (c .before .fits .z) (c .if1 .taken)
 
 sub-result : tie.Need-sub-result
-sub-result c = near c .holds
+sub-result c = near c .turned .holds
 
 cast-result : tie.Need-cast-result
-cast-result c = cast-fits (near c .back) (near c .small)
+cast-result c = cast-fits (near c .turned .back) (near c .small)
 
 add-result : tie.Need-add-result
-add-result c = omega (arith, ap natAbs (near c .back), near c .small)
+add-result c = omega (arith, ap natAbs (near c .turned .back), near c .small)
 
 returns : tie.Need-returns
-returns c = omega (arith, ap natAbs (near c .back), ap natAbs (near c .is))
+returns c = omega (arith, ap natAbs (near c .turned .back), ap natAbs (near c .is))
 
 cast-result-2 : tie.Need-cast-result-2
 cast-result-2 c = cast-above (c .before .args .z) (c .before .fits .z) (c .if1 .left)

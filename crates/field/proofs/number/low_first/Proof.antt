@@ -5,10 +5,10 @@ use native.Mathlib.Omega.{arith}
 use native.Mathlib.Nat.{sub-self, sub-zero, add-zero}
 use lib.ListN.{getD}
 use Rattle.field.specs.Field.{lowFirst}
-use Rattle.field.proofs.Spelling.{limit3}
+use Rattle.field.proofs.Spelling.{limit7}
 use Rattle.field.proofs.Fields.{lowFirst-none, lowFirst-more, low-most}
-use Rattle.field.proofs.low_first.Statement.{statement}
-use Rattle.field.proofs.low_first.Tie as tie
+use Rattle.field.proofs.number.low_first.Statement.{statement}
+use Rattle.field.proofs.number.low_first.Tie as tie
 
 abbrev Inv-loop : tie.InvT-loop
 Inv-loop s at width v₀ i₀ v i = (i ≤ width) × (v ≡ lowFirst (width - i) s (at + i))
@@ -36,11 +36,11 @@ cast-b : tie.Need-cast-b Inv-loop μ-loop
 cast-b c = omega (arith, small c)
 
 -- what is in v before a turn
-below : (c : tie.After-shared-slice-known Inv-loop μ-loop) → c .before .before .loop .v < 16777216
+below : (c : tie.After-shared-slice-known Inv-loop μ-loop) → c .before .before .loop .v < 72057594037927936
 below c =
     let a = c .before .before .before .args in
     let i = c .before .before .loop .i in
-    omega (arith, low-most (a .s .now) (λ j. c .shared-slice-known .given j .fits) (a .width - i) 3 (a .at + i) (omega arith), limit3)
+    omega (arith, low-most (a .s .now) (λ j. c .shared-slice-known .given j .fits) (a .width - i) 7 (a .at + i) (omega arith), limit7)
 
 mul-v : tie.Need-mul-v Inv-loop μ-loop
 mul-v c = omega (arith, below c)

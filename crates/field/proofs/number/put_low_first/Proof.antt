@@ -1,16 +1,14 @@
--- `put` meets its contract: the bytes that are left, put from here on, give what is to be put from the start. Assumes nothing.
+-- `put_low_first` meets its contract: the bytes that are left, put from here on, give what is to be put from the start. Assumes nothing.
 use mathlib.Core.Path.{_≡_, refl, sym, _∙_}
 use Prim.Native.Nat.{_+_, _-_, _≤_}
 use native.Mathlib.Nat.{add-zero, sub-zero}
 use native.Mathlib.Omega.{arith}
 use lib.ListN.{length, length-set}
 use lib.Seq.{sets}
 use Rattle.field.specs.Spelling.{bytesOf}
-use Rattle.batch.proofs.Bytes.{lowest-first, none-left}
-use Rattle.batch.proofs.number.put.Statement.{statement}
-use Rattle.batch.proofs.number.put.Tie as tie
-use Rattle.batch.proofs.number.put.Reads as reads
-use Rattle.batch.proofs.number.put.Lts as lts
+use Rattle.field.proofs.Spelling.{lowest-first, none-left}
+use Rattle.field.proofs.number.put_low_first.Statement.{statement}
+use Rattle.field.proofs.number.put_low_first.Tie as tie
 
 abbrev Inv-loop : tie.InvT-loop
 Inv-loop out₀ at width x rest₀ i₀ out rest i =
@@ -60,8 +58,8 @@ returns c =
     let l = c .before .loop in
     (omega arith, sym (none-left (l .out) (a .at + l .i) (l .rest) (a .width - l .i) (omega arith)) ∙ l .inv .2)
 
-pub put-spec : {M : Type 1} → statement M
-put-spec =
+pub put-low-first-spec : {M : Type 1} → statement M
+put-low-first-spec =
     tie.close
     (tie.spec
     Inv-loop
