@@ -1,5 +1,6 @@
 pub mod Puts
 pub mod Digits
+pub mod Figures
 pub mod Signs
 pub mod BitLine
 pub mod HexLine

@@ -1,5 +1,6 @@
 -- The promises on texts are kept. Assumes nothing.
 use mathlib.Core.Path.{_≡_, refl, sym, ap, _∙_}
+use mathlib.Core.Bool.{true}
 use mathlib.Core.List.{List, [], _∷_, _++_, append-nil, append-assoc}
 use Prim.Native.Nat.{ℕ, zero, suc, _+_, _-_, _*_, _/_, _%_, _≤_, _<_}
 use native.Mathlib.Omega.{arith}
@@ -7,20 +8,18 @@ use lib.IntN.{ℤ, pos, negsuc}
 use lib.ListN.{length, getD, take, drop, length-append, List·getD-append}
 use lib.Seq.{append-snoc, sets, sets-eq, take-at, drop-at, take-append-seam, length-take-le}
 use Rattle.line.specs.Text.{Out, outOf, top, put, Put, figure, minus, digits, decimal}
-use Rattle.line.specs.Promise.{Figures, Figures.none, Figures.one, readOn, valueOf, NumbersPromise, Stands, TextPromise}
+use Rattle.line.specs.Promise.{allFigures, readOn, valueOf, NumbersPromise, Stands, TextPromise}
+use Rattle.line.proofs.Figures.{figures, figure-last}
 use Rattle.line.proofs.Puts.{put-then, put-length, put-at, put-fits}
 use Rattle.line.proofs.Digits.{by-tens, digits-few, digits-more, length-few, length-some}
 
 -- ---- the digits of a number are a numeral
-figures-then : {t : List ℕ} {d : ℕ} → figure 0 ≤ d → d ≤ figure 9 → Figures t → Figures (t ++ (d ∷ []))
-figures-then h k none = one h k none
-figures-then h k (one i j f) = one i j (figures-then h k f)
-
-figures : (n : ℕ) → Figures (digits n)
-figures =
-    by-tens (λ n. Figures (digits n))
-    (λ n h. rw (digits-few n h) (one {d = figure n} (omega arith) (omega arith) none))
-    (λ n h f. rw (digits-more n h) (figures-then {d = figure (n % 10)} (omega arith) (omega arith) f))
+digits-figures : (n : ℕ) → allFigures (digits n) ≡ true
+unfolding allFigures
+digits-figures =
+    by-tens (λ n. allFigures (digits n) ≡ true)
+    (λ n h. rw (digits-few n h) (figure-last [] (figure n) (omega arith) (omega arith) refl))
+    (λ n h f. rw (digits-more n h) (figure-last (digits (n / 10)) (figure (n % 10)) (omega arith) (omega arith) f))
 
 first : (n : ℕ) → 0 < n → figure 0 < getD (digits n) 0 0
 first =
@@ -46,26 +45,29 @@ value =
     (λ n h e. rw (digits-more n h, readOn-then 0 (digits (n / 10)) (figure (n % 10) ∷ []), e) (omega arith))
 
 -- ---- no other numeral is
-on-from : (v : ℕ) (t : List ℕ) → 0 < v → Figures t → digits (readOn v t) ≡ digits v ++ t
+on-from : (v : ℕ) (t : List ℕ) → 0 < v → allFigures t ≡ true → digits (readOn v t) ≡ digits v ++ t
 unfolding readOn
 on-from v [] h f = sym (append-nil (digits v))
-on-from v (d ∷ t) h (one i j f) =
+on-from v (d ∷ t) h e =
+    let f = figures d t e in
     let w = v * 10 + (d - figure 0) in
     let tenth : w / 10 ≡ v = omega arith in
     let last : figure (w % 10) ≡ d = omega arith in
     let here : digits w ≡ digits v ++ (d ∷ []) = digits-more w (omega arith) ∙ rw (tenth, last) in
-    on-from w t (omega arith) f ∙ ap (λ (l : List ℕ). l ++ t) here ∙ append-snoc (digits v) d t
+    on-from w t (omega arith) (f .others) ∙ ap (λ (l : List ℕ). l ++ t) here ∙ append-snoc (digits v) d t
 
-spelled : (t : List ℕ) → 0 < length t → Figures t → (1 < length t → figure 0 < getD t 0 0) → t ≡ digits (valueOf t)
+spelled : (t : List ℕ) → 0 < length t → allFigures t ≡ true → (1 < length t → figure 0 < getD t 0 0) → t ≡ digits (valueOf t)
 unfolding readOn
 spelled [] h f l = absurd (omega arith)
-spelled (d ∷ []) h (one i j f) l =
+spelled (d ∷ []) h e l =
+    let f = figures d [] e in
     let v : figure (0 * 10 + (d - figure 0)) ≡ d = omega arith in
     sym (digits-few (0 * 10 + (d - figure 0)) (omega arith) ∙ rw v)
-spelled (d ∷ e ∷ t) h (one i j f) l =
+spelled (d ∷ c ∷ t) h e l =
+    let f = figures d (c ∷ t) e in
     let v : figure (0 * 10 + (d - figure 0)) ≡ d = omega arith in
     let k : figure 0 < d = l (omega arith) in
-    sym (on-from (0 * 10 + (d - figure 0)) (e ∷ t) (omega arith) f ∙ rw (digits-few (0 * 10 + (d - figure 0)) (omega arith), v))
+    sym (on-from (0 * 10 + (d - figure 0)) (c ∷ t) (omega arith) (f .others) ∙ rw (digits-few (0 * 10 + (d - figure 0)) (omega arith), v))
 
 -- ---- so two numbers with the same text are equal
 same-digits : (m n : ℕ) → digits m ≡ digits n → m ≡ n
@@ -73,11 +75,11 @@ same-digits m n e = sym (value m) ∙ ap valueOf e ∙ value n
 
 -- no figure is a minus sign
 not-minus : (n m : ℕ) → digits n ≡ minus ∷ digits m → ⊥
-not-minus n m e = go (digits n) (figures n) e
+not-minus n m e = go (digits n) (digits-figures n) e
   where
-    go : (t : List ℕ) → Figures t → t ≡ minus ∷ digits m → ⊥
+    go : (t : List ℕ) → allFigures t ≡ true → t ≡ minus ∷ digits m → ⊥
     go [] f e = let w : _≡_ {A = ℕ} 0 1 = cc in omega arith
-    go (d ∷ t) (one i j f) e = let w : d ≡ minus = cc in omega arith
+    go (d ∷ t) f e = let w : d ≡ minus = cc in omega (arith, figures d t f .least)
 
 same-decimal : (x y : ℤ) → decimal x ≡ decimal y → x ≡ y
 unfolding decimal
@@ -89,7 +91,7 @@ same-decimal (negsuc m) (negsuc n) e = cc (same-digits (suc m) (suc n) (cc))
 pub numbers-promise : NumbersPromise
 numbers-promise =
     record {
-      numeral = λ n. record { some = length-some n; figures = figures n; first = λ h. first n (long n h) };
+      numeral = λ n. record { some = length-some n; figures = digits-figures n; first = λ h. first n (long n h) };
       value = value;
       spelled = λ t s. spelled t (s .some) (s .figures) (s .first);
       same-digits = same-digits;

@@ -1,15 +1,21 @@
 -- What is proved of the text: numbers are spelled in decimal and in no second way, and a text that is put changes nothing else.
 use mathlib.Core.Path.{_≡_}
+use mathlib.Core.Bool.{Bool, true, false, cond}
 use mathlib.Core.List.{List, [], _∷_, _++_}
 use Prim.Native.Nat.{ℕ, _+_, _-_, _*_, _≤_, _<_}
 use lib.IntN.{ℤ}
+use lib.Dec.{leb, ltb}
 use lib.ListN.{length, getD, take, drop}
 use Rattle.line.specs.Text.{Put, top, figure, digits, decimal}
 
--- every byte is a figure, "0" to "9"
-pub data Figures : List ℕ → Type 0 where
-  none : Figures []
-  one : {d : ℕ} {t : List ℕ} → figure 0 ≤ d → d ≤ figure 9 → Figures t → Figures (d ∷ t)
+-- "0" to "9"
+abbrev pub isFigure : ℕ → Bool
+isFigure b = cond (ltb b (figure 0)) false (leb b (figure 9))
+
+-- every byte is a figure
+unfoldable pub allFigures : List ℕ → Bool
+allFigures [] = true
+allFigures (b ∷ t) = cond (isFigure b) (allFigures t) false
 
 -- the number that figures spell, read from the first on, where those before them spell v
 unfoldable pub readOn : ℕ → List ℕ → ℕ
@@ -22,7 +28,7 @@ valueOf t = readOn 0 t
 -- a decimal number as it is to be written: figures, one at least, and "0" first only where it stands alone
 pub record Numeral (t : List ℕ) : Type 0 where
   pub some : 0 < length t
-  pub figures : Figures t
+  pub figures : allFigures t ≡ true
   pub first : 1 < length t → figure 0 < getD t 0 0
 
 pub record NumbersPromise : Type 0 where

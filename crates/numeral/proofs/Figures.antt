@@ -5,30 +5,17 @@ use mathlib.Core.Logic.{_⊎_, inl, inr, ⊎-elim}
 use mathlib.Core.List.{List, [], _∷_}
 use Prim.Native.Nat.{ℕ, _+_, _-_, _*_, _^_, _≤_, _<_}
 use native.Mathlib.Omega.{arith}
-use borrow.Author.Tests.{lt-ltb, le-ltb, le-leb, lt-leb, ltb-true, ltb-false}
+use borrow.Author.Tests.{lt-ltb, le-ltb, ltb-true, ltb-false}
 use lib.Dec.{ltb}
 use lib.ListN.{length, getD, drop}
 use lib.Seq.{drop-cons, drop-length}
 use native.Mathlib.Numerals.{add-one}
 use Rattle.line.specs.Text.{figure}
-use Rattle.line.specs.Promise.{readOn}
+use Rattle.line.specs.Promise.{isFigure, allFigures, readOn}
 use Rattle.numeral.specs.declared.Number.{Number}
-use Rattle.numeral.specs.Number.{isFigure, allFigures, fitted, numeralOf, naturalOf, figureThen}
+use Rattle.numeral.specs.Number.{fitted, numeralOf, naturalOf, figureThen}
 
 -- ---- one figure
-cond-same : {A : Type 0} (t : Bool) (x : A) → cond t x x ≡ x
-cond-same true x = refl
-cond-same false x = refl
-
-pub below-figures : (b : ℕ) → b < figure 0 → isFigure b ≡ false
-below-figures b h = rw (lt-ltb b (figure 0) h)
-
-pub above-figures : (b : ℕ) → figure 9 < b → isFigure b ≡ false
-above-figures b h = rw (lt-leb b (figure 9) h) (cond-same (ltb b (figure 0)) false)
-
-pub is-figure : (b : ℕ) → figure 0 ≤ b → b ≤ figure 9 → isFigure b ≡ true
-is-figure b h k = rw (le-ltb b (figure 0) h, le-leb b (figure 9) k)
-
 pub no-figure : (x : Number) (b : ℕ) → isFigure b ≡ false → Number.NotANumber ≡ figureThen x b
 no-figure (Number.Is v) b e = rw e
 no-figure Number.NotANumber b e = refl

@@ -1,22 +1,13 @@
 -- Numbers read from text: figures, zeros before them allowed, and a minus sign before a negative one.
-use mathlib.Core.Bool.{Bool, true, false, cond}
+use mathlib.Core.Bool.{cond}
 use mathlib.Core.List.{List, [], _∷_}
 use Prim.Native.Nat.{ℕ, zero, suc, _+_, _-_, _*_, _^_}
-use lib.Dec.{leb, ltb, eqb}
+use lib.Dec.{ltb, eqb}
 use lib.IntN.{pos, negsuc}
 use Rattle.line.specs.Text.{figure, minus}
-use Rattle.line.specs.Promise.{valueOf}
+use Rattle.line.specs.Promise.{isFigure, allFigures, valueOf}
 use Rattle.numeral.specs.declared.Number.{Number}
 use Rattle.numeral.specs.declared.SignedNumber.{SignedNumber}
-
--- "0" to "9"
-abbrev pub isFigure : ℕ → Bool
-isFigure b = cond (ltb b (figure 0)) false (leb b (figure 9))
-
--- every byte is a figure
-unfoldable pub allFigures : List ℕ → Bool
-allFigures [] = true
-allFigures (b ∷ t) = cond (isFigure b) (allFigures t) false
 
 -- a number, where it fits an unsigned word
 abbrev pub fitted : ℕ → Number

@@ -2,7 +2,8 @@
 use Prim.Native.Nat.{_+_, _-_, _*_, _≤_}
 use native.Mathlib.Omega.{arith}
 use borrow.Author.Needs.{needs}
-use Rattle.numeral.proofs.Figures.{no-figure, below-figures, above-figures, is-figure, fits, outgrows}
+use Rattle.line.proofs.Figures.{below-figures, above-figures, is-figure}
+use Rattle.numeral.proofs.Figures.{no-figure, fits, outgrows}
 use Rattle.numeral.proofs.figure_then.Statement.{statement}
 use Rattle.numeral.proofs.figure_then.Tie as tie
 
