@@ -23,10 +23,10 @@ use Rattle.sheet.specs.Opened.{Opened}
 use Rattle.sheet.specs.Rooms.{rowsOf}
 use Rattle.sheet.specs.WorkOut.{workedOf, replyOf, linkNumbers, flatten, clocksOut, linksOut, WorksOut}
 use Rattle.sheet.specs.Format.{Passed, WorkRefused}
-use Rattle.sheet.proofs.Format.{listed-refused, passed-accepted, one-passed, passed-or-refused, never-both}
-use Rattle.sheet.proofs.Format as Format
-use Rattle.sheet.proofs.Numbers.{one-to-ten}
-use Rattle.sheet.proofs.Table.{worked-listed, listed-worked, worked-passed, passed-worked}
+use Rattle.sheet.proofs.Refusing.Format.{listed-refused, passed-accepted, one-passed, passed-or-refused, never-both}
+use Rattle.sheet.proofs.Refusing.Format as Format
+use Rattle.sheet.proofs.Refusing.Numbers.{one-to-ten}
+use Rattle.sheet.proofs.Refusing.Table.{worked-listed, listed-worked, worked-passed, passed-worked}
 use Rattle.sheet.proofs.Served.{meant}
 use Rattle.sheet.proofs.Promise.{served}
 use Rattle.register.specs.Closing.{closingOf, closingReply, numberOf, closedBytes}

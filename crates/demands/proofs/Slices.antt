@@ -18,7 +18,7 @@ use Rattle.sheet.specs.Opened.{Opened}
 use Rattle.sheet.specs.Rooms.{rowOf, verdictIn}
 use Rattle.sheet.specs.WorkOut.{linkNumbers, flatten}
 use Rattle.sheet.specs.Format.{Passed}
-use Rattle.sheet.proofs.Format.{passed-accepted}
+use Rattle.sheet.proofs.Refusing.Format.{passed-accepted}
 use Rattle.report.specs.declared.Listed.{Listed}
 use Rattle.report.specs.Listing.{sheetText, listedOf, textAfter, ListsInto}
 

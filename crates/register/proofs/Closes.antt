@@ -20,15 +20,15 @@ use Rattle.sheet.specs.Sheet.{spellSheet, ClockRow}
 use Rattle.sheet.specs.Reader.{readSheet}
 use Rattle.sheet.specs.Opened.{Opened}
 use Rattle.sheet.specs.Format.{Passed}
-use Rattle.sheet.proofs.Format.{accepted-passed, passed-accepted}
-use Rattle.sheet.proofs.Rows.{every-at}
-use Rattle.sheet.proofs.Sheets.{Opens, sheet-reads}
+use Rattle.sheet.proofs.Refusing.Format.{accepted-passed, passed-accepted}
+use Rattle.sheet.proofs.Spelling.Rows.{every-at}
+use Rattle.sheet.proofs.Spelling.Sheets.{Opens, sheet-reads}
 use Rattle.sheet.specs.Locating.{clockPlace, locatedIn}
 use Rattle.register.specs.Closing.{closingOf, closedBytes}
 use Rattle.register.specs.Inner.Marking.{closedClock, marked, closeSheet, closeIn, closeEach}
 use Rattle.register.specs.Promise.{only, OneClosed, ClosedInTurn, ClosedInTurn.none, ClosedInTurn.next, among}
 use Rattle.register.proofs.Marks.{marks-kept, marks-same, marks-both}
-use Rattle.sheet.proofs.Places.{clock-bytes, state-byte, clock-at}
+use Rattle.sheet.proofs.Spelling.Places.{clock-bytes, state-byte, clock-at}
 use Rattle.register.proofs.Sheets.{one-byte, close-opens, kept-same, opens-read}
 use Rattle.register.proofs.LinkStates.{alters}
 

@@ -24,15 +24,15 @@ use Rattle.sheet.specs.Sheet.{rows, section}
 use Rattle.sheet.specs.Reader.{readSheet}
 use Rattle.sheet.specs.Opened.{Opened}
 use Rattle.sheet.specs.Inner.Sections.{foundOf, readingOf}
-use Rattle.sheet.proofs.Rows.{same-got}
-use Rattle.sheet.proofs.Readings.{mapped-got, mapped-refused}
-use Rattle.sheet.proofs.Sheets.{Opens, sheet-reads}
+use Rattle.sheet.proofs.Spelling.Rows.{same-got}
+use Rattle.sheet.proofs.Tables.Readings.{mapped-got, mapped-refused}
+use Rattle.sheet.proofs.Spelling.Sheets.{Opens, sheet-reads}
 use Rattle.sheet.specs.Locating.{clockPlace, Located, placeOf, listedClock, locatedIn}
 use Rattle.register.specs.Inner.Skipping.{HasExpr, HasClocks}
 use Rattle.register.specs.declared.Closing.{Closing}
 use Rattle.register.specs.Closing.{closingOf, closingReply, closedBytes, Closes}
 use Rattle.register.specs.Quoting.{quotingOf, quotedFrom, quotedPart, Quotes}
-use Rattle.sheet.proofs.Places.{clock-bytes, state-byte, next-place}
+use Rattle.sheet.proofs.Spelling.Places.{clock-bytes, state-byte, next-place}
 use Rattle.register.proofs.Skips.{clock-expr}
 use Rattle.register.proofs.Closes.{past-the-last}
 

@@ -17,7 +17,7 @@ use Rattle.expression.proofs.Lookup.{lookup-there}
 use Rattle.sheet.specs.Sheet.{Link, Every, LinkRow, Legal}
 use Rattle.sheet.specs.Opened.{Opened}
 use Rattle.sheet.specs.Rooms.{markOf, verdictIn, rowOf, rowsOf, total, sizeOfRow, openRoom, wholeRoom}
-use Rattle.sheet.proofs.Rows.{each-every}
+use Rattle.sheet.proofs.Spelling.Rows.{each-every}
 use Rattle.register.specs.Inner.Marking.{marked, closeIn}
 use Rattle.register.specs.OpenLinks.{withIf, those, isOpen, untouched, LinkStates}
 use Rattle.register.specs.Table.{HasMark}

@@ -16,10 +16,10 @@ use Rattle.sheet.specs.Opened.{Opened}
 use Rattle.sheet.specs.Format.{Passed}
 use Rattle.sheet.specs.Rooms.{rowsOf}
 use Rattle.sheet.specs.Locating.{clockPlace}
-use Rattle.sheet.proofs.Format.{accepted-passed, passed-accepted, one-passed}
-use Rattle.sheet.proofs.Numbers.{one-to-ten}
-use Rattle.sheet.proofs.Rows.{every-at}
-use Rattle.sheet.proofs.Sheets.{sheet-reads}
+use Rattle.sheet.proofs.Refusing.Format.{accepted-passed, passed-accepted, one-passed}
+use Rattle.sheet.proofs.Refusing.Numbers.{one-to-ten}
+use Rattle.sheet.proofs.Spelling.Rows.{every-at}
+use Rattle.sheet.proofs.Spelling.Sheets.{sheet-reads}
 use Rattle.register.specs.declared.Closing.{Closing}
 use Rattle.register.specs.declared.QuoteReply.{QuoteReply}
 use Rattle.register.specs.Closing.{closingOf, closingReply, numberOf, placeOf, closedBytes, Closes}

@@ -14,12 +14,12 @@ use Rattle.expression.specs.Expression.{Clock, spell, spellClock}
 use Rattle.expression.proofs.Lookup.{lookup-below}
 use Rattle.sheet.specs.Reader.{readSheet}
 use Rattle.sheet.specs.Opened.{Opened}
-use Rattle.sheet.proofs.Sheets.{Opens}
+use Rattle.sheet.proofs.Spelling.Sheets.{Opens}
 use Rattle.sheet.specs.Locating.{clockPlace, locatedIn}
 use Rattle.register.specs.Quoting.{quotingOf, quotedFrom, quotedPart}
 use Rattle.register.specs.Promise.{Quoted}
 use Rattle.register.proofs.Skips.{has-tag}
-use Rattle.sheet.proofs.Places.{clock-bytes, expr-bytes, next-place, clock-at}
+use Rattle.sheet.proofs.Spelling.Places.{clock-bytes, expr-bytes, next-place, clock-at}
 use Rattle.register.proofs.Sheets.{opens-read}
 
 pub quoting-refused : (s : List ℕ) (i number place : ℕ) → readSheet s ≡ refused number place → quotingOf s i ≡ refused number place

@@ -13,7 +13,7 @@ use Rattle.expression.specs.Expression.{Clock, spellWord, spellClock}
 use Rattle.sheet.specs.Sheet.{Sheet, spellLink, rows, section, spellSheet, Each, LinkRow, Legal}
 use Rattle.sheet.specs.Reader.{readSheet}
 use Rattle.sheet.specs.Opened.{Opened}
-use Rattle.sheet.proofs.Sheets.{Opens, sheet-read}
+use Rattle.sheet.proofs.Spelling.Sheets.{Opens, sheet-read}
 use Rattle.sheet.specs.Locating.{clockPlace}
 use Rattle.register.specs.Inner.Marking.{markClocks, closeSheet, closeIn}
 use Rattle.register.specs.Promise.{only}

@@ -15,7 +15,7 @@ use Rattle.expression.proofs.Lookup.{lookup-there}
 use Rattle.sheet.specs.Sheet.{Sheet, rows}
 use Rattle.sheet.specs.Locating.{clockPlace}
 use Rattle.register.specs.Inner.Skipping.{ownBytes, partsOf, HasExpr, HasClocks}
-use Rattle.sheet.proofs.Places.{clock-bytes, expr-bytes, next-place}
+use Rattle.sheet.proofs.Spelling.Places.{clock-bytes, expr-bytes, next-place}
 
 -- n expressions are left to skip, from a to c
 pub record Left (s : List ℕ) (n a c : ℕ) : Type 0 where

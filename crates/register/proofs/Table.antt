@@ -15,7 +15,7 @@ use Rattle.expression.specs.Expression.{Clock}
 use Rattle.sheet.specs.Reader.{readSheet}
 use Rattle.sheet.specs.Opened.{Opened}
 use Rattle.sheet.specs.Format.{Refused}
-use Rattle.sheet.proofs.Format.{refused-listed, listed-refused, accepted-passed, passed-accepted}
+use Rattle.sheet.proofs.Refusing.Format.{refused-listed, listed-refused, accepted-passed, passed-accepted}
 use Rattle.register.specs.Closing.{closingOf, closingReply, numberOf, placeOf}
 use Rattle.register.specs.Quoting.{quotingOf, quoteReply}
 use Rattle.register.specs.Table.{QuoteRefused, CloseRefused}

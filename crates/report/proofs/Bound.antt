@@ -24,9 +24,9 @@ use Rattle.sheet.specs.Reader.{readSheet}
 use Rattle.sheet.specs.Opened.{Opened}
 use Rattle.sheet.specs.Rooms.{rowOf, rowsOf, total, sizeOfRow}
 use Rattle.sheet.specs.Inner.Sections.{stateOfClock}
-use Rattle.sheet.proofs.LinkRows.{row-small, open-most}
+use Rattle.sheet.proofs.Tables.LinkRows.{row-small, open-most}
 use Rattle.sheet.proofs.Promise.{served}
-use Rattle.sheet.proofs.Sheets.{sheet-reads}
+use Rattle.sheet.proofs.Spelling.Sheets.{sheet-reads}
 use Rattle.line.specs.Text.{decimal, lineOf}
 use Rattle.line.proofs.Digits.{length-most}
 use Rattle.line.specs.Letters.{letters}

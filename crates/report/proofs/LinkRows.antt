@@ -10,7 +10,7 @@ use Rattle.envelope.specs.declared.Node.{Node}
 use Rattle.link.specs.declared.Row.{Row}
 use Rattle.sheet.specs.Sheet.{Link}
 use Rattle.sheet.specs.Inner.Sections.{linksOf, linkIn, rowAt, rowsIn}
-use Rattle.sheet.proofs.LinkTable.{links-many, left-link}
+use Rattle.sheet.proofs.Tables.LinkTable.{links-many, left-link}
 use Rattle.line.specs.Text.{outOf, put, putLine, lineOf}
 use Rattle.line.specs.Letters.{letters}
 use Rattle.line.proofs.Puts.{put-more}

@@ -13,7 +13,7 @@ use Rattle.sheet.specs.Reader.{readSheet}
 use Rattle.sheet.specs.Opened.{Opened}
 use Rattle.sheet.specs.Rooms.{rowOf, rowsOf, openRoom, wholeRoom}
 use Rattle.sheet.specs.WorkOut.{workedOf, clockNumbers, linkNumbers, flatten}
-use Rattle.sheet.proofs.Written.{flatten-length}
+use Rattle.sheet.proofs.Tables.Written.{flatten-length}
 use Rattle.report.specs.Listing.{refusedLine, wholeText, textOf, listingOf}
 use Rattle.report.proofs.Bound.{listing-most}
 use Rattle.report.specs.Promise.{sheetLines, Shows, Listing}

@@ -12,7 +12,7 @@ use Rattle.field.specs.Read.{Read, Read.got, Read.refused}
 use Rattle.sheet.specs.Reader.{readSheet}
 use Rattle.sheet.specs.Opened.{Opened}
 use Rattle.sheet.specs.Format.{Passed}
-use Rattle.sheet.proofs.Format.{refused-listed, listed-refused, accepted-passed, passed-accepted}
+use Rattle.sheet.proofs.Refusing.Format.{refused-listed, listed-refused, accepted-passed, passed-accepted}
 use Rattle.report.specs.declared.Listed.{Listed}
 use Rattle.report.specs.Listing.{sheetText, listedIn, listedOf, numberOf, placeOf}
 use Rattle.report.specs.Table.{ListRefused}

@@ -16,7 +16,7 @@ use Rattle.sheet.specs.declared.Rooms.{Rooms}
 use Rattle.sheet.specs.Reader.{readSheet}
 use Rattle.sheet.specs.Opened.{Opened}
 use Rattle.sheet.specs.Inner.Sections.{foundOf, Tabled}
-use Rattle.sheet.proofs.Outcome.{rows-are, links-is, table-is, states}
+use Rattle.sheet.proofs.Tables.Outcome.{rows-are, links-is, table-is, states}
 use Rattle.line.specs.Text.{Out, outOf, top, putLine, Put}
 use Rattle.line.proofs.Puts.{put-then, put-line, put-at, put-fits}
 use Rattle.report.specs.declared.Listed.{Listed}

@@ -7,10 +7,10 @@ use Rattle.field.specs.Read.{Read.got}
 use Rattle.field.specs.Spelling.{AllBytes}
 use Rattle.sheet.specs.Reader.{readSheet}
 use Rattle.sheet.specs.Promise.{Tie, Served, Refusals}
-use Rattle.sheet.proofs.Sheets.{Opens, sheet-reads, sheet-read, one-sheet}
+use Rattle.sheet.proofs.Spelling.Sheets.{Opens, sheet-reads, sheet-read, one-sheet}
 use Rattle.sheet.proofs.Served.{meant, link-serves}
-use Rattle.sheet.proofs.Format.{refused-listed, listed-refused, accepted-passed, passed-accepted}
-use Rattle.sheet.proofs.Faults.{within, first-fault, bytes-after, by-rules, cut-short}
+use Rattle.sheet.proofs.Refusing.Format.{refused-listed, listed-refused, accepted-passed, passed-accepted}
+use Rattle.sheet.proofs.Refusing.Faults.{within, first-fault, bytes-after, by-rules, cut-short}
 
 pub tie : (s : List ℕ) → AllBytes s → Tie s
 tie s bytes =

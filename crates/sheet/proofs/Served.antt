@@ -23,8 +23,8 @@ use Rattle.sheet.specs.Reader.{readSheet}
 use Rattle.sheet.specs.Opened.{Opened}
 use Rattle.sheet.specs.Rooms.{verdictBetween, verdictIn}
 use Rattle.sheet.specs.Promise.{StreamOf}
-use Rattle.sheet.proofs.Rows.{every-at, each-at}
-use Rattle.sheet.proofs.Sheets.{Opens, sheet-reads}
+use Rattle.sheet.proofs.Spelling.Rows.{every-at, each-at}
+use Rattle.sheet.proofs.Spelling.Sheets.{Opens, sheet-reads}
 
 module _ (s : List ℕ) (bytes : AllBytes s) (o : Opened) (c : ℕ) (h : readSheet s ≡ got o c) where
   opens : Opens s o c

@@ -11,7 +11,7 @@ use Rattle.sheet.specs.Sheet.{clocksMost, linksMost}
 use Rattle.sheet.specs.Reader.{readSheet}
 use Rattle.sheet.specs.Opened.{Opened}
 use Rattle.sheet.specs.Inner.Sections.{foundOf}
-use Rattle.sheet.proofs.Outcome.{reading-refused, reading-whole, clocks-few, links-few, ready}
+use Rattle.sheet.proofs.Tables.Outcome.{reading-refused, reading-whole, clocks-few, links-few, ready}
 use Rattle.report.proofs.Texts.{listed-refused, listed-whole}
 use borrow.Author.Needs.{needs}
 use Rattle.report.proofs.list.Statement.{statement}

@@ -8,8 +8,8 @@ use lib.ListN.{length}
 use Rattle.link.specs.Link.{sizeIn}
 use Rattle.expression.specs.Inner.Nodes.{nodesIn}
 use Rattle.sheet.specs.Inner.Sections.{linksOf, roomsOver}
-use Rattle.sheet.proofs.LinkTable.{links-many, next-link}
-use Rattle.sheet.proofs.Written.{Summed, summed-none, row-few, summed-more, rows-all}
+use Rattle.sheet.proofs.Tables.LinkTable.{links-many, next-link}
+use Rattle.sheet.proofs.Tables.Written.{Summed, summed-none, row-few, summed-more, rows-all}
 use Rattle.line.proofs.Puts.{going-length}
 use Rattle.report.proofs.LinkRows.{Going, going-more, going-all}
 use Rattle.report.proofs.put_links.Statement.{statement}

@@ -6,7 +6,7 @@ use native.Mathlib.Omega.{arith}
 use borrow.Author.Needs.{needs}
 use Rattle.field.specs.Field.{fieldOf}
 use Rattle.field.proofs.Fields.{there}
-use Rattle.sheet.proofs.BitCounts.{counted, count-start, count-more, count-refused, count-all}
+use Rattle.sheet.proofs.Tables.BitCounts.{counted, count-start, count-more, count-refused, count-all}
 use Rattle.sheet.proofs.bits.Statement.{statement}
 use Rattle.sheet.proofs.bits.Tie as tie
 

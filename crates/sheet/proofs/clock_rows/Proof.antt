@@ -11,8 +11,8 @@ use Rattle.field.specs.declared.Field.{Field}
 use Rattle.envelope.specs.Envelope.{Taken}
 use Rattle.expression.specs.Inner.Nodes.{nodesIn}
 use Rattle.sheet.specs.Inner.Sections.{markedOf}
-use Rattle.sheet.proofs.NodeTables.{stored-holds}
-use Rattle.sheet.proofs.ClockTable.{Kept, mark-taken, kept-none, kept-more, kept-refused, kept-all, clocks-refused}
+use Rattle.sheet.proofs.Tables.NodeTables.{stored-holds}
+use Rattle.sheet.proofs.Tables.ClockTable.{Kept, mark-taken, kept-none, kept-more, kept-refused, kept-all, clocks-refused}
 use Rattle.sheet.proofs.clock_rows.Statement.{statement}
 use Rattle.sheet.proofs.clock_rows.Tie as tie
 

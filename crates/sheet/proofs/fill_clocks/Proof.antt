@@ -9,9 +9,9 @@ use lib.Seq.{take-all}
 use Rattle.expression.specs.Inner.Nodes.{nodesIn}
 use Rattle.expression.proofs.Tables.{nodes-many}
 use Rattle.sheet.specs.WorkOut.{clockNumbers}
-use Rattle.sheet.proofs.NodeTables.{nodes-next}
-use Rattle.sheet.proofs.LinkRows.{entry-taken}
-use Rattle.sheet.proofs.Written.{Written, written-none, written-more, written-all}
+use Rattle.sheet.proofs.Tables.NodeTables.{nodes-next}
+use Rattle.sheet.proofs.Tables.LinkRows.{entry-taken}
+use Rattle.sheet.proofs.Tables.Written.{Written, written-none, written-more, written-all}
 use Rattle.sheet.proofs.fill_clocks.Statement.{statement}
 use Rattle.sheet.proofs.fill_clocks.Tie as tie
 

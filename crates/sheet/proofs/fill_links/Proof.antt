@@ -10,8 +10,8 @@ use Rattle.link.specs.Link.{sizeIn}
 use Rattle.expression.specs.Inner.Nodes.{nodesIn}
 use Rattle.sheet.specs.WorkOut.{linkNumbers}
 use Rattle.sheet.specs.Inner.Sections.{linksOf, roomsOver}
-use Rattle.sheet.proofs.LinkTable.{links-many, next-link}
-use Rattle.sheet.proofs.Written.{Written, written-none, written-more, written-all, rowsTo, Summed, summed-none, rows-more, row-few, summed-more, rows-all}
+use Rattle.sheet.proofs.Tables.LinkTable.{links-many, next-link}
+use Rattle.sheet.proofs.Tables.Written.{Written, written-none, written-more, written-all, rowsTo, Summed, summed-none, rows-more, row-few, summed-more, rows-all}
 use Rattle.sheet.proofs.fill_links.Statement.{statement}
 use Rattle.sheet.proofs.fill_links.Tie as tie
 

@@ -2,7 +2,7 @@
 use native.Mathlib.Omega.{arith}
 use borrow.Author.Needs.{needs}
 use denote.Ref.{now}
-use Rattle.sheet.proofs.Outcome.{short-clocks, short-links, given-whole}
+use Rattle.sheet.proofs.Tables.Outcome.{short-clocks, short-links, given-whole}
 use Rattle.sheet.proofs.give.Statement.{statement}
 use Rattle.sheet.proofs.give.Tie as tie
 

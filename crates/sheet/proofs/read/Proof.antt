@@ -7,7 +7,7 @@ use denote.Ref.{now}
 use lib.ListN.{length}
 use lib.Seq.{length-take-le}
 use Rattle.sheet.specs.Sheet.{wordsMost}
-use Rattle.sheet.proofs.Stages.{too-long, words-refused, few-words, words-hold, words-then}
+use Rattle.sheet.proofs.Tables.Stages.{too-long, words-refused, few-words, words-hold, words-then}
 use Rattle.sheet.proofs.read.Statement.{statement}
 use Rattle.sheet.proofs.read.Tie as tie
 

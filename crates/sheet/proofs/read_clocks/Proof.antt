@@ -5,7 +5,7 @@ use borrow.Author.Needs.{needs}
 use denote.Ref.{now}
 use Rattle.field.specs.Field.{fieldOf}
 use Rattle.field.proofs.Fields.{there}
-use Rattle.sheet.proofs.ClockTable.{section-refused, section-left}
+use Rattle.sheet.proofs.Tables.ClockTable.{section-refused, section-left}
 use Rattle.sheet.proofs.read_clocks.Statement.{statement}
 use Rattle.sheet.proofs.read_clocks.Tie as tie
 

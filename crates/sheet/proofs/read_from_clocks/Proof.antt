@@ -5,7 +5,7 @@ use borrow.Author.Needs.{needs}
 use denote.Ref.{now}
 use lib.ListN.{length}
 use Rattle.sheet.specs.Sheet.{clocksMost}
-use Rattle.sheet.proofs.Stages.{clocks-refused, few-clocks, count-within, clocks-then}
+use Rattle.sheet.proofs.Tables.Stages.{clocks-refused, few-clocks, count-within, clocks-then}
 use Rattle.sheet.proofs.read_from_clocks.Statement.{statement}
 use Rattle.sheet.proofs.read_from_clocks.Tie as tie
 

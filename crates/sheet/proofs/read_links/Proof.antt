@@ -14,9 +14,9 @@ use Rattle.field.proofs.Fields.{field-there}
 use Rattle.sheet.specs.Sheet.{linksMost}
 use Rattle.sheet.specs.Reader.{linkAt}
 use Rattle.sheet.specs.Inner.Sections.{endsOf}
-use Rattle.sheet.proofs.Readings.{section-none, section-rows, reached-refused, reached-all}
-use Rattle.sheet.proofs.LinkRows.{link-anywhere, ends-there}
-use Rattle.sheet.proofs.LinkTable.{Ended, ended-none, ended-more, rows-refused, rows-got}
+use Rattle.sheet.proofs.Tables.Readings.{section-none, section-rows, reached-refused, reached-all}
+use Rattle.sheet.proofs.Tables.LinkRows.{link-anywhere, ends-there}
+use Rattle.sheet.proofs.Tables.LinkTable.{Ended, ended-none, ended-more, rows-refused, rows-got}
 use Rattle.sheet.proofs.read_links.Statement.{statement}
 use Rattle.sheet.proofs.read_links.Tie as tie
 

@@ -1,6 +1,6 @@
 -- `read_to_end` meets its contract: the links' reader decides, and then the end. Assumes nothing.
 use borrow.Author.Needs.{needs}
-use Rattle.sheet.proofs.Stages.{links-refused, links-past, links-whole}
+use Rattle.sheet.proofs.Tables.Stages.{links-refused, links-past, links-whole}
 use Rattle.sheet.proofs.read_to_end.Statement.{statement}
 use Rattle.sheet.proofs.read_to_end.Tie as tie
 

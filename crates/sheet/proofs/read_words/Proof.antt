@@ -13,8 +13,8 @@ use Rattle.envelope.specs.Envelope.{Taken}
 use Rattle.expression.specs.Evaluate.{wordNode}
 use Rattle.expression.specs.Reader.{valueOf}
 use Rattle.sheet.specs.Sheet.{wordsMost}
-use Rattle.sheet.proofs.NodeTables.{Stored, stored-none}
-use Rattle.sheet.proofs.WordTable.{word-row, node-taken, words-more, words-stop, words-none, words-refused, words-got}
+use Rattle.sheet.proofs.Tables.NodeTables.{Stored, stored-none}
+use Rattle.sheet.proofs.Tables.WordTable.{word-row, node-taken, words-more, words-stop, words-none, words-refused, words-got}
 use Rattle.sheet.proofs.read_words.Statement.{statement}
 use Rattle.sheet.proofs.read_words.Tie as tie
 

@@ -5,7 +5,7 @@ use borrow.Author.Needs.{needs}
 use denote.Ref.{now}
 use lib.ListN.{length, getD}
 use Rattle.sheet.specs.Inner.Sections.{linkIn}
-use Rattle.sheet.proofs.LinkRows.{entry-taken, row-is}
+use Rattle.sheet.proofs.Tables.LinkRows.{entry-taken, row-is}
 use Rattle.sheet.proofs.row.Statement.{statement}
 use Rattle.sheet.proofs.row.Tie as tie
 

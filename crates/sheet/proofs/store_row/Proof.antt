@@ -17,7 +17,7 @@ use Rattle.whole.proofs.Machine.{held}
 use Rattle.link.specs.declared.Row.{Row}
 use Rattle.link.specs.Link.{numberOf, sizeIn}
 use Rattle.sheet.specs.WorkOut.{linkNumbers}
-use Rattle.sheet.proofs.LinkRows.{number-small}
+use Rattle.sheet.proofs.Tables.LinkRows.{number-small}
 use Rattle.sheet.proofs.store_row.Statement.{statement}
 use Rattle.sheet.proofs.store_row.Tie as tie
 

@@ -3,7 +3,7 @@
 use native.Mathlib.Omega.{arith}
 use borrow.Author.Needs.{needs}
 use Rattle.field.proofs.Fields.{there}
-use Rattle.sheet.proofs.WordTable.{word-is}
+use Rattle.sheet.proofs.Tables.WordTable.{word-is}
 use Rattle.sheet.proofs.word.Statement.{statement}
 use Rattle.sheet.proofs.word.Tie as tie
 

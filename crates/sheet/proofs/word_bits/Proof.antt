@@ -6,7 +6,7 @@ use native.Mathlib.Omega.{arith}
 use borrow.Author.Needs.{needs}
 use denote.Ref.{now}
 use Rattle.field.specs.Field.{fieldOf}
-use Rattle.sheet.proofs.BitCounts.{Lain, lain, prefix-refused, period-refused}
+use Rattle.sheet.proofs.Tables.BitCounts.{Lain, lain, prefix-refused, period-refused}
 use Rattle.sheet.proofs.word_bits.Statement.{statement}
 use Rattle.sheet.proofs.word_bits.Tie as tie
 

@@ -12,7 +12,7 @@ use Rattle.sheet.specs.Sheet.{clocksMost, linksMost}
 use Rattle.sheet.specs.Reader.{readSheet}
 use Rattle.sheet.specs.Opened.{Opened}
 use Rattle.sheet.specs.Inner.Sections.{foundOf}
-use Rattle.sheet.proofs.Outcome.{reading-refused, reading-whole, out-refused, not-read, clocks-few, links-few, ready, out-given}
+use Rattle.sheet.proofs.Tables.Outcome.{reading-refused, reading-whole, out-refused, not-read, clocks-few, links-few, ready, out-given}
 use Rattle.sheet.proofs.work_out.Statement.{statement}
 use Rattle.sheet.proofs.work_out.Tie as tie
 

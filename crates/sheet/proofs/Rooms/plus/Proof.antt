@@ -2,7 +2,7 @@
 use Prim.Native.Nat.{_+_}
 use native.Mathlib.Omega.{arith}
 use borrow.Author.Needs.{needs}
-use Rattle.sheet.proofs.LinkRows.{open-most}
+use Rattle.sheet.proofs.Tables.LinkRows.{open-most}
 use Rattle.sheet.proofs.Rooms.plus.Statement.{statement}
 use Rattle.sheet.proofs.Rooms.plus.Tie as tie
 

@@ -13,7 +13,7 @@ use Rattle.field.proofs.Fields.{fieldIn-bytes, fieldIn-got}
 use Rattle.expression.specs.Spelled.{indexes}
 use Rattle.sheet.specs.Sheet.{Link, spellLink, LinkRow}
 use Rattle.sheet.specs.Reader.{linkAt}
-use Rattle.sheet.proofs.Rows.{same-got}
+use Rattle.sheet.proofs.Spelling.Rows.{same-got}
 
 -- between n clocks, after those of xs
 pub link-reads : (s : List ℕ) → AllBytes s → (n : ℕ) (xs : List Link) (a : ℕ) (l : Link) (c : ℕ) → linkAt s n xs a ≡ got l c → LinkRow n l × Bytes s a (spellLink l) c

@@ -18,8 +18,8 @@ use Rattle.sheet.specs.Sheet.{Link}
 use Rattle.sheet.specs.Rooms.{total, sizeOfRow}
 use Rattle.sheet.specs.WorkOut.{flatten}
 use Rattle.sheet.specs.Inner.Sections.{rowAt, rowsIn, roomsOver, roomsWith}
-use Rattle.sheet.proofs.NodeTables.{map-more}
-use Rattle.sheet.proofs.LinkRows.{row-small, open-most}
+use Rattle.sheet.proofs.Tables.NodeTables.{map-more}
+use Rattle.sheet.proofs.Tables.LinkRows.{row-small, open-most}
 
 -- ---- sums, with one more
 total-more : (xs : List ℕ) (x : ℕ) → total (xs ++ (x ∷ [])) ≡ total xs + x

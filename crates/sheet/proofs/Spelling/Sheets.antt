@@ -18,12 +18,12 @@ use Rattle.expression.specs.Spelled.{indexes}
 use Rattle.sheet.specs.Sheet.{Sheet, wordsMost, clocksMost, linksMost, bytesMost, spellLink, rows, section, spellSheet, Every, Each, WordRow, ClockRow, LinkRow, Legal}
 use Rattle.sheet.specs.Reader.{sectionAt, wordAt, clockAt, linkAt, linksOn, clocksOn, readFrom, readSheet}
 use Rattle.sheet.specs.Opened.{ClockNode, clockOf, nodeOfClock, Opened}
-use Rattle.sheet.proofs.Format.{short-enough, ended}
-use Rattle.sheet.proofs.Rows.{same-got, each-every, every-each, section-reads, section-read}
-use Rattle.sheet.proofs.Words.{word-reads, word-read}
-use Rattle.sheet.proofs.Clocks.{ClockMade, clock-reads, clock-read}
-use Rattle.sheet.proofs.Links.{link-reads, link-read}
-use Rattle.sheet.proofs.Worked.{rows-worked, rows-clocks, together, together-clocks, together-nodes, worked-rows}
+use Rattle.sheet.proofs.Refusing.Format.{short-enough, ended}
+use Rattle.sheet.proofs.Spelling.Rows.{same-got, each-every, every-each, section-reads, section-read}
+use Rattle.sheet.proofs.Spelling.Words.{word-reads, word-read}
+use Rattle.sheet.proofs.Spelling.Clocks.{ClockMade, clock-reads, clock-read}
+use Rattle.sheet.proofs.Spelling.Links.{link-reads, link-read}
+use Rattle.sheet.proofs.Spelling.Worked.{rows-worked, rows-clocks, together, together-clocks, together-nodes, worked-rows}
 
 -- ---- a section, by rows that hold more than they spell
 pub rows-map : {A B : Type 0} (f : B → List ℕ) (g : A → B) (zs : List A) → rows f (map g zs) ≡ rows (λ z. f (g z)) zs

@@ -24,11 +24,11 @@ use Rattle.sheet.specs.Opened.{ClockNode, clockOf, nodeOfClock, Opened}
 use Rattle.sheet.specs.Format.{sheet}
 use Rattle.sheet.specs.WorkOut.{workedOf}
 use Rattle.sheet.specs.Promise.{UpTo, exprPlace}
-use Rattle.sheet.proofs.Rows.{section-stops}
-use Rattle.sheet.proofs.Clocks.{ClockMade, clock-read, clock-refused}
-use Rattle.sheet.proofs.Worked.{together, together-clocks, together-nodes, worked-rows}
-use Rattle.sheet.proofs.Sheets.{rows-map, spellRow, few-words, words-read, to-end, sheet-read}
-use Rattle.sheet.proofs.Format.{short-enough, refused-listed, listed-refused, refused-within, refused-stays, cut-listed}
+use Rattle.sheet.proofs.Spelling.Rows.{section-stops}
+use Rattle.sheet.proofs.Spelling.Clocks.{ClockMade, clock-read, clock-refused}
+use Rattle.sheet.proofs.Spelling.Worked.{together, together-clocks, together-nodes, worked-rows}
+use Rattle.sheet.proofs.Spelling.Sheets.{rows-map, spellRow, few-words, words-read, to-end, sheet-read}
+use Rattle.sheet.proofs.Refusing.Format.{short-enough, refused-listed, listed-refused, refused-within, refused-stays, cut-listed}
 
 module _ (s : List ℕ) where
   pub within : (number place : ℕ) → readSheet s ≡ refused number place → place ≤ length s

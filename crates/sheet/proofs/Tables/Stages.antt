@@ -26,14 +26,14 @@ use Rattle.sheet.specs.Sheet.{Link, wordsMost, clocksMost, linksMost, by
 use Rattle.sheet.specs.Reader.{sectionAt, wordAt, clockAt, linkAt, openedOf, linksOn, clocksOn, readFrom, readSheet}
 use Rattle.sheet.specs.Opened.{ClockNode, clockOf, nodeOfClock, Opened}
 use Rattle.sheet.specs.Inner.Sections.{WordRows, ClockRows, LinkRows, stateOfRow, stateOfClock, readingFrom, readingOf, EndsLeft, Tabled, ToEnd, FromClocks}
-use Rattle.sheet.proofs.Format.{short-enough}
-use Rattle.sheet.proofs.Rows.{section-reads}
-use Rattle.sheet.proofs.Words.{word-reads}
-use Rattle.sheet.proofs.Readings.{mapped-got, mapped-refused, sectioned}
-use Rattle.sheet.proofs.NodeTables.{lent-holds, lent-nodes, Listed, left-refused, left-got}
-use Rattle.sheet.proofs.WordTable.{word-row, words-left}
-use Rattle.sheet.proofs.ClockTable.{clocks-left, clocks-states}
-use Rattle.sheet.proofs.LinkTable.{rows-counted, rows-ends}
+use Rattle.sheet.proofs.Refusing.Format.{short-enough}
+use Rattle.sheet.proofs.Spelling.Rows.{section-reads}
+use Rattle.sheet.proofs.Spelling.Words.{word-reads}
+use Rattle.sheet.proofs.Tables.Readings.{mapped-got, mapped-refused, sectioned}
+use Rattle.sheet.proofs.Tables.NodeTables.{lent-holds, lent-nodes, Listed, left-refused, left-got}
+use Rattle.sheet.proofs.Tables.WordTable.{word-row, words-left}
+use Rattle.sheet.proofs.Tables.ClockTable.{clocks-left, clocks-states}
+use Rattle.sheet.proofs.Tables.LinkTable.{rows-counted, rows-ends}
 
 -- ---- what was opened holds the words and the clocks that were read before
 module _ (s : List ℕ) (ws : List Word) where

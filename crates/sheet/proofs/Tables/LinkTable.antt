@@ -13,7 +13,7 @@ use Rattle.field.proofs.Read.{refused-got}
 use Rattle.sheet.specs.Sheet.{Link, LinkRow, Each}
 use Rattle.sheet.specs.Reader.{linkAt}
 use Rattle.sheet.specs.Inner.Sections.{flatLinks, linksOf, LinkRows, linkIn}
-use Rattle.sheet.proofs.Readings.{Reached, reached-none, reached-more}
+use Rattle.sheet.proofs.Tables.Readings.{Reached, reached-none, reached-more}
 
 -- ---- ends in a row
 flat-more : (ls : List Link) (k : Link) → flatLinks (ls ++ (k ∷ [])) ≡ flatLinks ls ++ (k .producer ∷ k .consumer ∷ [])

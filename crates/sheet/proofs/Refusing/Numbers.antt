@@ -19,7 +19,7 @@ use Rattle.sheet.specs.Sheet.{wordsMost, clocksMost, linksMost}
 use Rattle.sheet.specs.Reader.{readSheet}
 use Rattle.sheet.specs.Opened.{ClockNode, nodeOfClock}
 use Rattle.sheet.specs.Format.{many, counted, bits, wordRow, clockRow, linkRow, sheet, Refused, Refused.too-long, Refused.faulty, Refused.bytes-after}
-use Rattle.sheet.proofs.Format.{refused-listed}
+use Rattle.sheet.proofs.Refusing.Format.{refused-listed}
 
 many-gives : {A : Type 0} (row : List A → Format A) → ((xs : List A) → Gives Listed (row xs)) → (n : ℕ) (xs : List A) → Gives Listed (many row n xs)
 unfolding many

@@ -21,8 +21,8 @@ use Rattle.envelope.specs.Word.{onesIn, wordOf}
 use Rattle.envelope.specs.Made.{nodeOf}
 use Rattle.sheet.specs.Reader.{bitsAt}
 use Rattle.sheet.specs.Inner.Sections.{wordBits}
-use Rattle.sheet.proofs.Words.{bits-reads}
-use Rattle.sheet.proofs.Readings.{mapped-got, mapped-refused}
+use Rattle.sheet.proofs.Spelling.Words.{bits-reads}
+use Rattle.sheet.proofs.Tables.Readings.{mapped-got, mapped-refused}
 
 -- a bit is its own count
 bit-value : (b : ℕ) → b < 2 → value (eqb b 1) ≡ b

@@ -14,7 +14,7 @@ use Rattle.sheet.specs.Reader.{readSheet}
 use Rattle.sheet.specs.Opened.{Opened}
 use Rattle.sheet.specs.Format.{Refused, Passed, WorkRefused}
 use Rattle.sheet.specs.WorkOut.{workedOf}
-use Rattle.sheet.proofs.Format.{refused-listed, listed-refused, accepted-passed, passed-accepted}
+use Rattle.sheet.proofs.Refusing.Format.{refused-listed, listed-refused, accepted-passed, passed-accepted}
 
 module _ (s : List ℕ) (clocks links : ℕ) where
   -- what there is room for

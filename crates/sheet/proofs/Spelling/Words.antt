@@ -17,7 +17,7 @@ use Rattle.envelope.specs.Word.{onesIn, LegalWord}
 use Rattle.expression.specs.Expression.{Word, spellWord}
 use Rattle.sheet.specs.Sheet.{Every, WordRow}
 use Rattle.sheet.specs.Reader.{bitsAt, wordAt}
-use Rattle.sheet.proofs.Rows.{same-got}
+use Rattle.sheet.proofs.Spelling.Rows.{same-got}
 
 -- ---- bits
 pub bits-reads : (s : List ℕ) → AllBytes s → (n a : ℕ) (bs : List ℕ) (c : ℕ) → a ≤ length s → bitsAt n s a ≡ got bs c → (length bs ≡ n) × Every (λ b. b < 2) bs × Bytes s a bs c

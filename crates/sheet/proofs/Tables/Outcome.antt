@@ -27,9 +27,9 @@ use Rattle.sheet.specs.Opened.{Opened}
 use Rattle.sheet.specs.Rooms.{markOf, rowOf, rowsOf, openRoom, wholeRoom, verdictIn}
 use Rattle.sheet.specs.WorkOut.{roomFor, workedOf, refusalOf, replyOf, clockNumbers, linkNumbers, flatten, clocksOut, linksOut, WorksOut}
 use Rattle.sheet.specs.Inner.Sections.{flatLinks, linksOf, foundOf, readingOf, stateOfClock, Tabled, rowAt, rowsIn, roomsOver, Ready, Given}
-use Rattle.sheet.proofs.Sheets.{Opens, sheet-reads}
-use Rattle.sheet.proofs.LinkTable.{flat-length, links-flat, ends-small, links-many}
-use Rattle.sheet.proofs.NodeTables.{lent-holds, lent-nodes}
+use Rattle.sheet.proofs.Spelling.Sheets.{Opens, sheet-reads}
+use Rattle.sheet.proofs.Tables.LinkTable.{flat-length, links-flat, ends-small, links-many}
+use Rattle.sheet.proofs.Tables.NodeTables.{lent-holds, lent-nodes}
 
 -- ---- the reading, by what the code's reader answered
 pub reading-refused : (X : Read Opened) (number place : ℕ) → Reading.Refused number place ≡ readingOf X → X ≡ refused number place

@@ -21,7 +21,7 @@ use Rattle.expression.specs.Inner.Nodes.{nodesIn, nodeAt, AllTaken, Holds}
 use Rattle.expression.proofs.Lookup.{none-some}
 use Rattle.expression.proofs.Tables.{node-at, flats-back, flats-more, flats-holds}
 use Rattle.sheet.specs.Reader.{rowsAt}
-use Rattle.sheet.proofs.Readings.{refused-same, Reached, reached-none, reached-more, reached-all}
+use Rattle.sheet.proofs.Tables.Readings.{refused-same, Reached, reached-none, reached-more, reached-all}
 
 -- ---- one more
 pub map-more : {A B : Type 0} (f : A → B) (xs : List A) (x : A) → map f (xs ++ (x ∷ [])) ≡ map f xs ++ (f x ∷ [])

@@ -11,8 +11,8 @@ use Rattle.expression.specs.Evaluate.{Worth.whole, evaluate, wordNodes, Worked}
 use Rattle.expression.proofs.Lookup.{none-some, lookup-map}
 use Rattle.sheet.specs.Sheet.{Every, Each, ClockRow}
 use Rattle.sheet.specs.Opened.{ClockNode, clockOf, nodeOfClock}
-use Rattle.sheet.proofs.Rows.{every-at, each-at, at-each}
-use Rattle.sheet.proofs.Clocks.{ClockMade}
+use Rattle.sheet.proofs.Spelling.Rows.{every-at, each-at, at-each}
+use Rattle.sheet.proofs.Spelling.Clocks.{ClockMade}
 
 module _ {A B : Type 0} (f : A → B) where
   pub map-take : (xs : List A) (i : ℕ) → map f (take i xs) ≡ take i (map f xs)

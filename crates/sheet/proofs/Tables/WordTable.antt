@@ -24,9 +24,9 @@ use Rattle.expression.specs.Table.{flat}
 use Rattle.sheet.specs.Sheet.{wordsMost}
 use Rattle.sheet.specs.Reader.{rowsAt, bitsAt, wordAt}
 use Rattle.sheet.specs.Inner.Sections.{wordBits, WordsLeft, WordRows}
-use Rattle.sheet.proofs.Words.{word-reads}
-use Rattle.sheet.proofs.Readings.{mapped-got, mapped-refused, reached-refused, section-none, section-rows}
-use Rattle.sheet.proofs.NodeTables.{Stored, stored-more, stored-all, Left}
+use Rattle.sheet.proofs.Spelling.Words.{word-reads}
+use Rattle.sheet.proofs.Tables.Readings.{mapped-got, mapped-refused, reached-refused, section-none, section-rows}
+use Rattle.sheet.proofs.Tables.NodeTables.{Stored, stored-more, stored-all, Left}
 
 -- a word's node, by its lengths and its bits
 pub word-is : (s : List ℕ) (a : ℕ) → mapped wordNode (wordAt s a) ≡ bind (fieldIn 1 0 65 beyond s a) (λ p c. bind (fieldIn 1 1 65 beyond s c) (λ q d. wordBits p q s d))

@@ -21,11 +21,11 @@ use Rattle.sheet.specs.Reader.{rowsAt, wordAt, clockAt}
 use Rattle.sheet.specs.Opened.{ClockNode, clockOf, Opened}
 use Rattle.sheet.specs.Format.{many, wordRow, counted, clockRow, upTo, ClockAt}
 use Rattle.sheet.specs.Locating.{clockPlace}
-use Rattle.sheet.proofs.Format.{many-run, counted-run, word-run, clock-run}
-use Rattle.sheet.proofs.Rows.{each-take, rows-read}
-use Rattle.sheet.proofs.Clocks.{ClockMade, clock-read}
-use Rattle.sheet.proofs.Worked.{map-take, together, together-clocks, worked-rows}
-use Rattle.sheet.proofs.Sheets.{Opens, spellRow, rows-map, few-words, words-read}
+use Rattle.sheet.proofs.Refusing.Format.{many-run, counted-run, word-run, clock-run}
+use Rattle.sheet.proofs.Spelling.Rows.{each-take, rows-read}
+use Rattle.sheet.proofs.Spelling.Clocks.{ClockMade, clock-read}
+use Rattle.sheet.proofs.Spelling.Worked.{map-take, together, together-clocks, worked-rows}
+use Rattle.sheet.proofs.Spelling.Sheets.{Opens, spellRow, rows-map, few-words, words-read}
 
 -- row i, at b, of rows that stand at a
 module _ {A : Type 0} (f : A → List ℕ) {s : List ℕ} where
