@@ -19,7 +19,7 @@ use Rattle.link.proofs.Links.{links}
 use Rattle.pattern.proofs.Promises.{patterns}
 use Rattle.sheet.specs.declared.Reply.{Reply}
 use Rattle.sheet.specs.Reader.{readSheet}
-use Rattle.sheet.specs.Opened.{Opened}
+use Rattle.sheet.specs.SheetRead.{SheetRead}
 use Rattle.sheet.specs.Rooms.{rowsOf}
 use Rattle.sheet.specs.WorkOut.{workedOf, replyOf, linkNumbers, flatten, clocksOut, linksOut, WorksOut}
 use Rattle.sheet.specs.Format.{Passed, WorkRefused}
@@ -29,12 +29,12 @@ use Rattle.sheet.proofs.Refusing.Numbers.{one-to-ten}
 use Rattle.sheet.proofs.Refusing.Table.{worked-listed, listed-worked, worked-passed, passed-worked}
 use Rattle.sheet.proofs.Served.{meant}
 use Rattle.sheet.proofs.Promise.{served}
-use Rattle.register.specs.Closing.{closingOf, closingReply, numberOf, closedBytes}
+use Rattle.register.specs.Closing.{closingOf, closingReply, closingNumber, closedBytes}
 use Rattle.register.specs.Quoting.{quotingOf, quotedFrom, quotedPart, quoteReply}
 use Rattle.register.proofs.Table.{closing-exactly, quoting-exactly}
 use Rattle.register.proofs.Promise.{close-0, closes, quote-0, quotes, quotes-nothing, any-set, any-order}
 use Rattle.report.specs.declared.Listed.{Listed}
-use Rattle.report.specs.Listing.{sheetText, listedIn, textIn, listedOf, textAfter, numberOf as listNumber}
+use Rattle.report.specs.Listing.{sheetText, listedIn, textIn, listedOf, textAfter, listedNumber}
 use Rattle.report.proofs.Table.{listing-exactly}
 use Rattle.report.proofs.Promise.{listing}
 use Rattle.demands.specs.Entry.{Fixed}
@@ -52,23 +52,23 @@ triple : {A B C : Type 0} {a x : A} {b y : B} {c z : C} → a ≡ x → b ≡ y 
 triple p q r = λ i. (p i, q i, r i)
 
 -- ---- "untouched"
-untouched : (w : Read Opened) (clocks links : List ℤ) → replyOf w .number ≢ 0 → (clocksOut w clocks ≡ clocks) × (linksOut w links ≡ links) × NoTotals (replyOf w)
+untouched : (w : Read SheetRead) (clocks links : List ℤ) → replyOf w .number ≢ 0 → (clocksOut w clocks ≡ clocks) × (linksOut w links ≡ links) × NoTotals (replyOf w)
 untouched (got o c) clocks links h = absurd (h refl)
 untouched (refused number place) clocks links h =
     (refl, refl, record { clocks = refl; links = refl; opened = refl; whole = refl })
 
-unclosed : (r : Read ℕ) (s : List ℕ) → numberOf (closingReply r) ≢ 0 → closedBytes r s ≡ s
+unclosed : (r : Read ℕ) (s : List ℕ) → closingNumber (closingReply r) ≢ 0 → closedBytes r s ≡ s
 unclosed (got place c) s h = absurd (h refl)
 unclosed (refused number place) s h = refl
 
 unwritten : {a : Answer} (number place : ℕ) (q p : List ℕ) → Refused number place ≡ a → written a q p ≡ p
 unwritten number place q p h = rw (← h)
 
-unlisted : (x : Read Opened) (r : Listed) (t : List ℕ) → r ≡ listedIn x (length t) → listNumber r ≢ 0 → textIn x t ≡ t
+unlisted : (x : Read SheetRead) (r : Listed) (t : List ℕ) → r ≡ listedIn x (length t) → listedNumber r ≢ 0 → textIn x t ≡ t
 unlisted (got o c) r t e n = go (leb (length (sheetText o)) (length t)) e
   where
     go : (b : Bool) → r ≡ cond b (Listed.Text (length (sheetText o))) (Listed.Refused 11 0) → cond b (sets t 0 (sheetText o)) t ≡ t
-    go true e = absurd (n (ap listNumber e))
+    go true e = absurd (n (ap listedNumber e))
     go false e = refl
 unlisted (refused number place) r t e n = refl
 
@@ -77,9 +77,9 @@ then : {A B C : Type 0} → A ↔ B → B ↔ C → A ↔ C
 then f g = (λ a. g .0 (f .0 a), λ c. f .1 (g .1 c))
 
 -- a refusal's number and place are those of what was worked out
-replied : (w : Read Opened) (number place : ℕ) → number ≢ 0 → ((replyOf w .number ≡ number) × (replyOf w .place ≡ place)) ↔ (w ≡ refused number place)
+replied : (w : Read SheetRead) (number place : ℕ) → number ≢ 0 → ((replyOf w .number ≡ number) × (replyOf w .place ≡ place)) ↔ (w ≡ refused number place)
 replied (got o c) number place n = (λ h. absurd (n (sym (h .0))), λ h. refused-got (sym h))
-replied (refused m q) number place n = (λ h. ap₂ {A = ℕ} {B = ℕ} {C = Read Opened} (λ x y. refused x y) (h .0) (h .1), λ h. (cc, cc))
+replied (refused m q) number place n = (λ h. ap₂ {A = ℕ} {B = ℕ} {C = Read SheetRead} (λ x y. refused x y) (h .0) (h .1), λ h. (cc, cc))
 
 -- no refusal is 0
 not-0 : (s : List ℕ) (clocks links number place : ℕ) → WorkRefused s clocks links number place → number ≢ 0
@@ -87,10 +87,10 @@ not-0 s clocks links number place (WorkRefused.in-sheet r) z = omega (arith, one
 not-0 s clocks links _ _ (WorkRefused.too-short o p l) z = omega arith
 
 accepted-0 : (s : List ℕ) (clocks links : ℕ) → replyOf (workedOf s clocks links) .number ≡ 0
-    → (o : Opened) × Passed s o × (4 * length (o .table) ≤ clocks) × (3 * length (o .sheet .links) ≤ links)
+    → (o : SheetRead) × Passed s o × (4 * length (o .table) ≤ clocks) × (3 * length (o .sheet .links) ≤ links)
 accepted-0 s clocks links z = go (workedOf s clocks links) refl z
   where
-    go : (w : Read Opened) → workedOf s clocks links ≡ w → replyOf w .number ≡ 0 → (o : Opened) × Passed s o × (4 * length (o .table) ≤ clocks) × (3 * length (o .sheet .links) ≤ links)
+    go : (w : Read SheetRead) → workedOf s clocks links ≡ w → replyOf w .number ≡ 0 → (o : SheetRead) × Passed s o × (4 * length (o .table) ≤ clocks) × (3 * length (o .sheet .links) ≤ links)
     go (got o c) e z = let p = worked-passed s clocks links o c e in (o, p .0, p .2, p .3)
     go (refused number place) e z = absurd (not-0 s clocks links number place (worked-listed s clocks links number place e) z)
 
@@ -129,7 +129,7 @@ demand-1 =
           (then (replied (workedOf s (length clocks) (length links)) number place n) (worked-listed s (length clocks) (length links) number place, listed-worked s (length clocks) (length links)));
       work-out-0 = λ s clocks links r cs ls h.
           rw (h .reply-is)
-          (accepted-0 s (length clocks) (length links), λ p. ap (λ (w : Read Opened). replyOf w .number) (passed-worked s (length clocks) (length links) (p .0) (length s) (p .1, refl, p .2, p .3)));
+          (accepted-0 s (length clocks) (length links), λ p. ap (λ (w : Read SheetRead). replyOf w .number) (passed-worked s (length clocks) (length links) (p .0) (length s) (p .1, refl, p .2, p .3)));
       list-refused = λ s t u r h number place n. rw (h .answer-is) (listing-exactly s (length t) number place n);
       check-refused = λ e p a h number place. rw (h .answer-is) (patterns .refusals e p .check number place);
       first-refused = λ e p a q h number place. rw (h .answer-is) (patterns .refusals e p .first number place);
@@ -140,14 +140,14 @@ demand-1 =
       quote-0 = quote-0;
       work-out-untouched = λ s clocks links r cs ls h n.
           rw (h .clocks-are, h .links-are, h .reply-is) (untouched (workedOf s (length clocks) (length links)) clocks links (λ z. n (ap (λ (q : Reply). q .number) (h .reply-is) ∙ z)));
-      close-untouched = λ s i r t h n. h .bytes-are ∙ unclosed (closingOf s i) s (λ z. n (ap numberOf (h .reply-is) ∙ z));
+      close-untouched = λ s i r t h n. h .bytes-are ∙ unclosed (closingOf s i) s (λ z. n (ap closingNumber (h .reply-is) ∙ z));
       first-untouched = λ e p number place q h. h .bytes-are ∙ unwritten number place _ p (h .answer-is);
       next-untouched = λ e p number place q h. h .bytes-are ∙ unwritten number place _ p (h .answer-is);
       list-untouched = λ s t u r h n. h .text-is ∙ unlisted (readSheet s) r t (h .answer-is) n;
     }
 
 -- ---- what is given of a sheet that passes
-read : (s : List ℕ) (o : Opened) → Passed s o → readSheet s ≡ got o (length s)
+read : (s : List ℕ) (o : SheetRead) → Passed s o → readSheet s ≡ got o (length s)
 read s o p = passed-accepted s o (length s) p refl
 
 pub demand-2 : Demand2
@@ -167,8 +167,8 @@ demand-2 =
             ap (λ (a : Reply). a .links) q,
             ap (λ (a : Reply). a .opened) q,
             ap (λ (a : Reply). a .whole) q,
-            h .clocks-are ∙ ap (λ (a : Read Opened). clocksOut a clocks) w,
-            h .links-are ∙ ap (λ (a : Read Opened). linksOut a links) w,
+            h .clocks-are ∙ ap (λ (a : Read SheetRead). clocksOut a clocks) w,
+            h .links-are ∙ ap (λ (a : Read SheetRead). linksOut a links) w,
           );
       listing = listing-fits;
       listing-most = λ s bytes o p. listing s .most bytes o (length s) (read s o p);
@@ -180,14 +180,14 @@ demand-2 =
     }
 
 -- ---- the sizes given
-links-out : (s : List ℕ) (clocks links : List ℤ) (r : Reply) (cs ls : List ℤ) → WorksOut s clocks links r cs ls → r .number ≡ 0 → (o : Opened) → Passed s o
+links-out : (s : List ℕ) (clocks links : List ℤ) (r : Reply) (cs ls : List ℤ) → WorksOut s clocks links r cs ls → r .number ≡ 0 → (o : SheetRead) → Passed s o
     → ls ≡ flatten linkNumbers (rowsOf o) ++ drop (3 * length (o .sheet .links)) links
 links-out s clocks links r cs ls h z o p =
     let a = accepted-0 s (length clocks) (length links) (ap (λ (x : Reply). x .number) (sym (h .reply-is)) ∙ z) in
     let is : a .0 ≡ o = one-passed s (a .0) o (a .1) p in
-    let fits = subst (λ (x : Opened). (4 * length (x .table) ≤ length clocks) × (3 * length (x .sheet .links) ≤ length links)) is (a .2, a .3) in
+    let fits = subst (λ (x : SheetRead). (4 * length (x .table) ≤ length clocks) × (3 * length (x .sheet .links) ≤ length links)) is (a .2, a .3) in
     h .links-are
-    ∙ ap (λ (x : Read Opened). linksOut x links) (passed-worked s (length clocks) (length links) o (length s) (p, refl, fits .0, fits .1))
+    ∙ ap (λ (x : Read SheetRead). linksOut x links) (passed-worked s (length clocks) (length links) o (length s) (p, refl, fits .0, fits .1))
 
 pub demand-3 : Demand3
 demand-3 =

@@ -14,7 +14,7 @@ use Rattle.envelope.specs.declared.Span.{Span}
 use Rattle.envelope.specs.Stream.{ones}
 use Rattle.envelope.specs.Envelope.{resultOf}
 use Rattle.envelope.specs.Word.{bitAt, onesIn, wordBit, smallest, largest, offsets, wordOf}
-use Rattle.envelope.specs.Inner.Span.{withOf, spanOf}
+use Rattle.envelope.specs.Inner.Span.{includingOf, spanOf}
 use Rattle.envelope.proofs.Counts.{ones-none, ones-one, ones-zero, same-ones}
 use Rattle.envelope.proofs.WordBits.{word-first}
 
@@ -40,13 +40,13 @@ module _ (b : ℕ → Bool) (l n : ℕ) where
       go (inl e) h = ap (λ (x : Bool). length (onward t x)) e ∙ omega (arith, h, ones-one b t e)
       go (inr e) h = ap (λ (x : Bool). length (onward t x)) e ∙ omega (arith, h, ones-zero b t e)
 
-  more : (x : ℤ) (xs : List ℤ) (j : ℕ) → length xs ≡ j → _≡_ {A = Span} (record { k = smallest (x ∷ xs); K = largest (x ∷ xs) }) (withOf (record { k = smallest xs; K = largest xs }) x j)
+  more : (x : ℤ) (xs : List ℤ) (j : ℕ) → length xs ≡ j → _≡_ {A = Span} (record { k = smallest (x ∷ xs); K = largest (x ∷ xs) }) (includingOf (record { k = smallest xs; K = largest xs }) x j)
   more x [] zero h = refl
   more x [] (suc j) h = absurd (omega arith)
   more x (y ∷ ys) zero h = absurd (omega arith)
   more x (y ∷ ys) (suc j) h = refl
 
-  pub span-one : (t : ℕ) → b t ≡ true → spanOf b l n (suc t) ≡ withOf (spanOf b l n t) (pos (n * t) -ℤ pos (l * ones b t)) (ones b t)
+  pub span-one : (t : ℕ) → b t ≡ true → spanOf b l n (suc t) ≡ includingOf (spanOf b l n t) (pos (n * t) -ℤ pos (l * ones b t)) (ones b t)
   unfolding spanOf offsets
   span-one t e =
       ap (λ (x : Bool). record { k = smallest (onward t x); K = largest (onward t x) }) e

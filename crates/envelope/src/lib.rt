@@ -8,7 +8,7 @@ ghost use Rattle.envelope.specs.Limits.{lMost, lowerLeast, lowerMost};
 ghost use Rattle.envelope.specs.Envelope.{Limits, withinLimits, hasRoom, Taken, resultOf, normalOf, notOf, onOf};
 ghost use Rattle.envelope.specs.Word.{bitAt, onesIn, wordOf};
 ghost use Rattle.envelope.specs.Made.{Fields, declaredOf, limited, negatedOf, joinedOf};
-ghost use Rattle.envelope.specs.Inner.Span.{withOf, spanOf};
+ghost use Rattle.envelope.specs.Inner.Span.{includingOf, spanOf};
 ghost use Rattle.envelope.specs.Inner.Tests.{isTaken};
 
 pub struct Envelope {
@@ -166,7 +166,7 @@ impl Envelope {
         let g = whole::gcd(period, ones);
         let l = period / g;
         let n = ones / g;
-        let s = spread(bits, l, n);
+        let s = offset_span(bits, l, n);
         Envelope::result(s.k, s.K, l, n)
     }
 }
@@ -197,8 +197,8 @@ pub struct Span {
 
 impl Span {
     // With one number more, after j others.
-    fn with(self, x: i64, j: u64) -> Span
-        ensures { λ r. ⌜ r ≡ withOf self x j ⌝ }
+    fn including(self, x: i64, j: u64) -> Span
+        ensures { λ r. ⌜ r ≡ includingOf self x j ⌝ }
     {
         if j == 0 {
             return Span { k: x, K: x };
@@ -211,7 +211,7 @@ impl Span {
 }
 
 // The smallest and the largest n*p(j) - l*j of a word's bits.
-fn spread(bits: &[u8], l: u64, n: u64) -> Span
+fn offset_span(bits: &[u8], l: u64, n: u64) -> Span
     requires { ⌜ (l ≤ 64) × (n ≤ 64) × (length (now bits) ≤ 128) ⌝ }
     ensures { λ r. ⌜ r ≡ spanOf (bitAt (now (bits .entry))) l n (length (now (bits .entry))) ⌝ }
 {
@@ -220,7 +220,7 @@ fn spread(bits: &[u8], l: u64, n: u64) -> Span
     let mut j: u64 = 0;
     while t < bits.len() {
         if bits[t] == 1 {
-            s = s.with(offset(n, t as u64, l, j), j);
+            s = s.including(offset(n, t as u64, l, j), j);
             j += 1;
         }
         t += 1;

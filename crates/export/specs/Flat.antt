@@ -8,7 +8,7 @@ use Rattle.reply.specs.Numbers.{shortResult}
 use Rattle.sheet.specs.declared.Reply.{Reply}
 use Rattle.register.specs.declared.Closing.{Closing}
 use Rattle.register.specs.declared.QuoteReply.{QuoteReply}
-use Rattle.register.specs.Closing.{numberOf, placeOf}
+use Rattle.register.specs.Closing.{closingNumber, closingPlace}
 use Rattle.pattern.specs.declared.Answer.{Answer}
 use Rattle.pattern.specs.declared.Answer.the-variants.{Inside, Done, Last, Refused}
 use Rattle.report.specs.declared.Listed.{Listed}
@@ -23,7 +23,7 @@ workOutReply r =
 
 -- 0 and the place of the byte that was turned; or the refusal
 abbrev pub closeReply : Closing → TxoriReply
-closeReply r = record { number = numberOf r; place = placeOf r }
+closeReply r = record { number = closingNumber r; place = closingPlace r }
 
 -- the number that stands for "last"
 abbrev pub last : ℕ

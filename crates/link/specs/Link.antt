@@ -31,10 +31,10 @@ pub record Passes (e f : Envelope) : Type 0 where
   pub in-time : (e .K -ℤ f .k) ≤ℤ pos (e .n - 1)
 
 -- "verdict (0 accepted, 1 rates, 2 early)"
-abbrev pub numberOf : Verdict → ℕ
-numberOf (Accepted size) = 0
-numberOf Rates = 1
-numberOf Early = 2
+abbrev pub verdictNumber : Verdict → ℕ
+verdictNumber (Accepted size) = 0
+verdictNumber Rates = 1
+verdictNumber Early = 2
 
 -- "an accepted verdict carries its size, the others carry none, and their size is 0 in the result slice and in print"
 abbrev pub sizeIn : Verdict → ℕ

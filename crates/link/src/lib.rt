@@ -2,7 +2,7 @@
 ghost use mathlib.Core.Path.{_≡_};
 ghost use Rattle.envelope.specs.Envelope.{Taken};
 ghost use lib.IntN.{natAbs};
-ghost use Rattle.link.specs.Link.{sizeOf, earlyOf, Passes, verdictOf, numberOf, sizeIn, stateOf, openSizeOf};
+ghost use Rattle.link.specs.Link.{sizeOf, earlyOf, Passes, verdictOf, verdictNumber, sizeIn, stateOf, openSizeOf};
 use envelope::Envelope;
 
 // An accepted link carries its size in words, the others carry none.
@@ -57,7 +57,7 @@ pub fn judge(e: Envelope, f: Envelope) -> Verdict
 
 impl Verdict {
     pub fn number(self) -> u64
-        ensures { λ r. ⌜ r ≡ numberOf self ⌝ }
+        ensures { λ r. ⌜ r ≡ verdictNumber self ⌝ }
     {
         match self {
             Verdict::Accepted(_) => 0,

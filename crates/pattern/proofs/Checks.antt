@@ -20,7 +20,7 @@ use Rattle.pattern.specs.declared.Answer.the-variants.{Refused}
 use Rattle.pattern.specs.Step.{oneMay, zeroMay}
 use Rattle.pattern.specs.Pattern.{longest, after, may, Inside, passed, plain}
 use Rattle.pattern.specs.Beginning.{Begins}
-use Rattle.pattern.specs.Answer.{numberOf, stepsOf, checkAnswer}
+use Rattle.pattern.specs.Answer.{answerNumber, stepsOf, checkAnswer}
 use Rattle.pattern.proofs.Binary.{Bits}
 use Rattle.pattern.proofs.Beginnings.{begins-in, in-begins}
 
@@ -121,10 +121,10 @@ module _ (e : Envelope) where
     where
       go : (a : Answer) → Checked p a → a ≡ Answer.Inside → Passing p
       go _ (is-inside v) q = v
-      go _ (no-envelope f) q = absurd (let w = ap numberOf q in omega arith)
-      go _ (too-long t k) q = absurd (let w = ap numberOf q in omega arith)
-      go _ (no-bit t k l) q = absurd (let w = ap numberOf q in omega arith)
-      go _ (forbidden t k b l) q = absurd (let w = ap numberOf q in omega arith)
+      go _ (no-envelope f) q = absurd (let w = ap answerNumber q in omega arith)
+      go _ (too-long t k) q = absurd (let w = ap answerNumber q in omega arith)
+      go _ (no-bit t k l) q = absurd (let w = ap answerNumber q in omega arith)
+      go _ (forbidden t k b l) q = absurd (let w = ap answerNumber q in omega arith)
 
   pub inside-is : Taken e → (p : List ℕ) → (checkAnswer e p ≡ Answer.Inside) ↔ ((length p ≤ longest) × Begins e p)
   inside-is t p = (

@@ -15,7 +15,7 @@ use Rattle.pattern.specs.declared.Answer.{Answer}
 use Rattle.pattern.specs.declared.Answer.the-variants.{Done, Last}
 use Rattle.pattern.specs.Step.{low, high, oneMay, zeroMay}
 use Rattle.pattern.specs.Pattern.{Inside, number}
-use Rattle.pattern.specs.Answer.{numberOf, checkAnswer, nextOf, doneOrLast, ifInside, nextAnswer, nextBytes, written, orElse}
+use Rattle.pattern.specs.Answer.{answerNumber, checkAnswer, nextOf, doneOrLast, ifInside, nextAnswer, nextBytes, written, orElse}
 use Rattle.pattern.specs.Walk.{Successor, Greatest}
 use Rattle.pattern.proofs.Lists.{Less}
 use Rattle.pattern.proofs.Walking.{next-length}
@@ -37,11 +37,11 @@ module _ (e : Envelope) where
   next-fine p v = (rw (inside-check e p v), rw (inside-check e p v))
 
   -- "done" and "last" are answered of a pattern inside alone: a refusal has a number
-  next-passing : (p : List ℕ) → numberOf (nextAnswer e p) ≡ 0 → Passing e p
+  next-passing : (p : List ℕ) → answerNumber (nextAnswer e p) ≡ 0 → Passing e p
   unfolding nextAnswer
   next-passing p h = go (checkAnswer e p) (checked e p) h
     where
-      go : (a : Answer) → Checked e p a → numberOf (ifInside a (doneOrLast (nextOf e p))) ≡ 0 → Passing e p
+      go : (a : Answer) → Checked e p a → answerNumber (ifInside a (doneOrLast (nextOf e p))) ≡ 0 → Passing e p
       go _ (is-inside v) q = v
       go _ (no-envelope f) q = absurd (omega arith)
       go _ (too-long t k) q = absurd (omega arith)
@@ -81,7 +81,7 @@ module _ (e : Envelope) where
 
   pub done-is : (p : List ℕ) → nextAnswer e p ≡ Done → Successor e p (nextBytes e p)
   done-is p h =
-      let v = next-passing p (ap numberOf h) in
+      let v = next-passing p (ap answerNumber h) in
       go v (nextOf e p) refl (sym (next-fine p v .0) ∙ h) (next-fine p v .1)
     where
       go : Passing e p → (n : Option (List ℕ)) → nextOf e p ≡ n → doneOrLast n ≡ Done → nextBytes e p ≡ written (doneOrLast n) (orElse n p) p → Successor e p (nextBytes e p)
@@ -90,7 +90,7 @@ module _ (e : Envelope) where
 
   pub last-is : (p : List ℕ) → (nextAnswer e p ≡ Last) ↔ ((checkAnswer e p ≡ Answer.Inside) × Greatest e p)
   last-is p = (
-    λ h. (let v = next-passing p (ap numberOf h) in (inside-check e p v, to-none v (nextOf e p) refl (sym (next-fine p v .0) ∙ h))),
+    λ h. (let v = next-passing p (ap answerNumber h) in (inside-check e p v, to-none v (nextOf e p) refl (sym (next-fine p v .0) ∙ h))),
     λ h. (let v = check-inside e p (h .0) in next-fine p v .0 ∙ of-none v (h .1) (nextOf e p) refl),
   )
     where

@@ -17,11 +17,11 @@ use Rattle.pattern.specs.Step.{oneMay, zeroMay}
 use Rattle.pattern.specs.Pattern.{longest, plain, passed, fill, next}
 
 -- the number of a refusal, 0 where there is none
-abbrev pub numberOf : Answer → ℕ
-numberOf Inside = 0
-numberOf Done = 0
-numberOf Last = 0
-numberOf (Refused number place) = number
+abbrev pub answerNumber : Answer → ℕ
+answerNumber Inside = 0
+answerNumber Done = 0
+answerNumber Last = 0
+answerNumber (Refused number place) = number
 
 -- four numbers as they come
 abbrev pub given : ℤ → ℤ → ℕ → ℕ → Envelope

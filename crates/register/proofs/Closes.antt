@@ -18,7 +18,7 @@ use Rattle.expression.specs.Expression.{Clock, spellClock}
 use Rattle.expression.proofs.Lookup.{none-some, lookup-below}
 use Rattle.sheet.specs.Sheet.{spellSheet, ClockRow}
 use Rattle.sheet.specs.Reader.{readSheet}
-use Rattle.sheet.specs.Opened.{Opened}
+use Rattle.sheet.specs.SheetRead.{SheetRead}
 use Rattle.sheet.specs.Format.{Passed}
 use Rattle.sheet.proofs.Refusing.Format.{accepted-passed, passed-accepted}
 use Rattle.sheet.proofs.Spelling.Rows.{every-at}
@@ -42,7 +42,7 @@ pub closing-refused : (s : List ℕ) (i number place : ℕ) → readSheet s ≡ 
 unfolding closingOf locatedIn
 closing-refused s i number place h = rw h
 
-module _ (s : List ℕ) (i : ℕ) (o : Opened) (c : ℕ) (read : readSheet s ≡ got o c) where
+module _ (s : List ℕ) (i : ℕ) (o : SheetRead) (c : ℕ) (read : readSheet s ≡ got o c) where
   pub closing-absent : getElem? (o .sheet .clocks) i ≡ none → closingOf s i ≡ refused noClock 0
   unfolding closingOf locatedIn
   closing-absent e = rw (read, e)
@@ -58,11 +58,11 @@ module _ (s : List ℕ) (i : ℕ) (o : Opened) (c : ℕ) (read : readSheet s ≡
   pub closing-open : (k : Clock) → getElem? (o .sheet .clocks) i ≡ some k → k .state ≢ 1 → closingOf s i ≡ got (clockPlace (o .sheet) i) (clockPlace (o .sheet) i + 1)
   closing-open k e h = closing-there k e ∙ rw (ne-eqb (k .state) 1 h)
 
-opens-pass : (s : List ℕ) (o : Opened) (c : ℕ) → Opens s o c → Passed s o
+opens-pass : (s : List ℕ) (o : SheetRead) (c : ℕ) → Opens s o c → Passed s o
 opens-pass s o c h = accepted-passed s o c (opens-read s o c h) .0
 
 -- ---- one clock
-module _ (s : List ℕ) (i : ℕ) (o : Opened) (c : ℕ) (opens : Opens s o c) where
+module _ (s : List ℕ) (i : ℕ) (o : SheetRead) (c : ℕ) (opens : Opens s o c) where
   read : readSheet s ≡ got o c
   read = opens-read s o c opens
 
@@ -74,7 +74,7 @@ module _ (s : List ℕ) (i : ℕ) (o : Opened) (c : ℕ) (opens : Opens s o c) w
   then-opens = by (getElem? (o .sheet .clocks) i) refl
     where
       kept : ((j : ℕ) (x : Clock) → getElem? (o .sheet .clocks) j ≡ some x → marked (eqb i j) x ≡ x) → Opens s (closeIn (only i) o) c
-      kept h = subst (λ (u : Opened). Opens s u c) (sym (kept-same (only i) o (marks-kept (only i) (o .sheet .clocks) h))) opens
+      kept h = subst (λ (u : SheetRead). Opens s u c) (sym (kept-same (only i) o (marks-kept (only i) (o .sheet .clocks) h))) opens
 
       none-there : getElem? (o .sheet .clocks) i ≡ none → (j : ℕ) (x : Clock) → getElem? (o .sheet .clocks) j ≡ some x → marked (eqb i j) x ≡ x
       none-there e j x q = rw (ne-eqb i j λ p. none-some (sym e ∙ ap (getElem? (o .sheet .clocks)) p ∙ q))
@@ -125,25 +125,25 @@ each-refused s number place h [] = refl
 each-refused s number place h (i ∷ is) = rw (closing-refused s i number place h) (each-refused s number place h is)
 
 -- the bytes open the sheet with the clocks of the list marked closed
-each-opens : (is : List ℕ) (s : List ℕ) (o : Opened) (c : ℕ) → Opens s o c → Opens (closeEach is s) (closeIn (among is) o) c
+each-opens : (is : List ℕ) (s : List ℕ) (o : SheetRead) (c : ℕ) → Opens s o c → Opens (closeEach is s) (closeIn (among is) o) c
 unfolding closeEach among
-each-opens [] s o c h = subst (λ (u : Opened). Opens s u c) (sym (kept-same (λ j. false) o (marks-kept (λ j. false) (o .sheet .clocks) λ j x e. refl))) h
+each-opens [] s o c h = subst (λ (u : SheetRead). Opens s u c) (sym (kept-same (λ j. false) o (marks-kept (λ j. false) (o .sheet .clocks) λ j x e. refl))) h
 each-opens (i ∷ is) s o c h =
     let both : closeIn (among is) (closeIn (only i) o) ≡ closeIn (λ j. only i j || among is j) o =
     ap (λ (ks : List Clock). record { sheet = record { words = o .sheet .words; clocks = ks; links = o .sheet .links }; table = o .table }) (marks-both (among is) (only i) (o .sheet .clocks)) in
-    subst (λ (u : Opened). Opens (closeEach is (closedBytes (closingOf s i) s)) u c) both (each-opens is (closedBytes (closingOf s i) s) (closeIn (only i) o) c (then-opens s i o c h))
+    subst (λ (u : SheetRead). Opens (closeEach is (closedBytes (closingOf s i) s)) u c) both (each-opens is (closedBytes (closingOf s i) s) (closeIn (only i) o) c (then-opens s i o c h))
 
 module _ (s : List ℕ) (bytes : AllBytes s) where
-  opened : (is : List ℕ) (o : Opened) (c : ℕ) → readSheet s ≡ got o c → Opens (closeEach is s) (closeIn (among is) o) c
+  opened : (is : List ℕ) (o : SheetRead) (c : ℕ) → readSheet s ≡ got o c → Opens (closeEach is s) (closeIn (among is) o) c
   opened is o c h = each-opens is s o c (sheet-reads s bytes o c h)
 
-  pub set-passes : (is : List ℕ) (o : Opened) → Passed s o → Passed (closeEach is s) (closeIn (among is) o)
+  pub set-passes : (is : List ℕ) (o : SheetRead) → Passed s o → Passed (closeEach is s) (closeIn (among is) o)
   set-passes is o p = opens-pass (closeEach is s) (closeIn (among is) o) (length s) (opened is o (length s) (passed-accepted s o (length s) p refl))
 
   pub set-order : (is js : List ℕ) → ((i : ℕ) → among is i ≡ among js i) → closeEach is s ≡ closeEach js s
   set-order is js same = either (readSheet s) refl
     where
-      either : (r : Read Opened) → readSheet s ≡ r → closeEach is s ≡ closeEach js s
+      either : (r : Read SheetRead) → readSheet s ≡ r → closeEach is s ≡ closeEach js s
       either (got o c) h =
           opened is o c h .bytes
           ∙ ap (λ (ks : List Clock). spellSheet (record { words = o .sheet .words; clocks = ks; links = o .sheet .links })) (marks-same (among is) (among js) (o .sheet .clocks) same)

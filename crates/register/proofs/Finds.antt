@@ -22,7 +22,7 @@ use Rattle.sheet.specs.declared.Found.{Found}
 use Rattle.sheet.specs.declared.Reading.{Reading}
 use Rattle.sheet.specs.Sheet.{rows, section}
 use Rattle.sheet.specs.Reader.{readSheet}
-use Rattle.sheet.specs.Opened.{Opened}
+use Rattle.sheet.specs.SheetRead.{SheetRead}
 use Rattle.sheet.specs.Inner.Sections.{foundOf, readingOf}
 use Rattle.sheet.proofs.Spelling.Rows.{same-got}
 use Rattle.sheet.proofs.Tables.Readings.{mapped-got, mapped-refused}
@@ -46,7 +46,7 @@ quotes-by e p q r = record { part-is = rw e p; same-memory = q; begins = rw e r 
 
 -- the sheet that was read has a clock i, and its clocks begin at `first`
 pub record Chosen (s : List ℕ) (first i : ℕ) : Type 0 where
-  pub opened : Opened
+  pub opened : SheetRead
   pub past : ℕ
   pub reads : readSheet s ≡ got opened past
   pub clocks : HasClocks s first (i + 1) (opened .sheet)
@@ -56,17 +56,17 @@ module _ (s : List ℕ) (r : Reading) (told : r ≡ readingOf (readSheet s)) whe
   read-refused : (number place : ℕ) → r ≡ Reading.Refused number place → readSheet s ≡ refused number place
   read-refused number place e = go (readSheet s) (sym e ∙ told)
     where
-      go : (x : Read Opened) → Reading.Refused number place ≡ readingOf x → x ≡ refused number place
+      go : (x : Read SheetRead) → Reading.Refused number place ≡ readingOf x → x ≡ refused number place
       go (got o c) h = let z : _≡_ {A = ℕ} 0 1 = cc in absurd (omega arith)
       go (refused n p) h =
           let a : n ≡ number = cc in
           let b : p ≡ place = cc in
           rw (a, b)
 
-  read-whole : (f : Found) → r ≡ Reading.Whole f → (o : Opened) × (c : ℕ) × (readSheet s ≡ got o c) × (f ≡ foundOf o)
+  read-whole : (f : Found) → r ≡ Reading.Got f → (o : SheetRead) × (c : ℕ) × (readSheet s ≡ got o c) × (f ≡ foundOf o)
   read-whole f e = go (readSheet s) refl (sym e ∙ told)
     where
-      go : (x : Read Opened) → readSheet s ≡ x → Reading.Whole f ≡ readingOf x → (o : Opened) × (c : ℕ) × (readSheet s ≡ got o c) × (f ≡ foundOf o)
+      go : (x : Read SheetRead) → readSheet s ≡ x → Reading.Got f ≡ readingOf x → (o : SheetRead) × (c : ℕ) × (readSheet s ≡ got o c) × (f ≡ foundOf o)
       go (got o c) h q = (o, c, h, cc)
       go (refused n p) h q = let z : _≡_ {A = ℕ} 0 1 = cc in absurd (omega arith)
 
@@ -74,7 +74,7 @@ module _ (s : List ℕ) (r : Reading) (told : r ≡ readingOf (readSheet s)) whe
   unfolding locatedIn
   find-refused i number place e = rw (read-refused number place e)
 
-  module _ (bytes : AllBytes s) (f : Found) (is : r ≡ Reading.Whole f) (i : ℕ) where
+  module _ (bytes : AllBytes s) (f : Found) (is : r ≡ Reading.Got f) (i : ℕ) where
     pub find-absent : f .clocks ≤ i → refused noClock 0 ≡ mapped placeOf (locatedIn s i)
     unfolding locatedIn
     find-absent few =
@@ -124,7 +124,7 @@ located-bytes s i bytes x to h =
     let w = through (readSheet s) _ x to h in
     go (w .0) (sheet-reads s bytes (w .0) (w .1) (w .2)) (getElem? (w .0 .sheet .clocks) i) refl (w .3)
   where
-    go : (o : Opened) {c : ℕ} → Opens s o c → (r : Option Clock) → getElem? (o .sheet .clocks) i ≡ r → listedClock (o .sheet) i r ≡ got x to → Bytes s (x .place) (spellClock (x .clock)) to
+    go : (o : SheetRead) {c : ℕ} → Opens s o c → (r : Option Clock) → getElem? (o .sheet .clocks) i ≡ r → listedClock (o .sheet) i r ≡ got x to → Bytes s (x .place) (spellClock (x .clock)) to
     go o p none e q = refused-got q
     go o p (some k) e q = same-got (λ (y : Located) (d : ℕ). Bytes s (y .place) (spellClock (y .clock)) d) q (rw (p .bytes) (clock-bytes (o .sheet) i k e))
 

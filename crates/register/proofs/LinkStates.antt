@@ -15,7 +15,7 @@ use Rattle.link.specs.Link.{sizeIn, openSizeOf}
 use Rattle.expression.specs.Expression.{Clock}
 use Rattle.expression.proofs.Lookup.{lookup-there}
 use Rattle.sheet.specs.Sheet.{Link, Every, LinkRow, Legal}
-use Rattle.sheet.specs.Opened.{Opened}
+use Rattle.sheet.specs.SheetRead.{SheetRead}
 use Rattle.sheet.specs.Rooms.{markOf, verdictIn, rowOf, rowsOf, total, sizeOfRow, openRoom, wholeRoom}
 use Rattle.sheet.proofs.Spelling.Rows.{each-every}
 use Rattle.register.specs.Inner.Marking.{marked, closeIn}
@@ -42,38 +42,38 @@ closed-from true q h = inl refl
 closed-from false true h = inr refl
 closed-from false false h = absurd (omega arith)
 
-abbrev isMarked : Opened → ℕ → Bool
+abbrev isMarked : SheetRead → ℕ → Bool
 isMarked o i = eqb (markOf (getElem? (o .sheet .clocks) i)) 1
 
 -- a mark of 1 is that of a clock
-marked-closed : (o : Opened) (i : ℕ) → isMarked o i ≡ true → HasMark o i 1
+marked-closed : (o : SheetRead) (i : ℕ) → isMarked o i ≡ true → HasMark o i 1
 marked-closed o i h = go (getElem? (o .sheet .clocks) i) refl (eqb-true _ 1 h)
   where
     go : (r : Option Clock) → getElem? (o .sheet .clocks) i ≡ r → markOf r ≡ 1 → HasMark o i 1
     go none e p = absurd (omega arith)
     go (some k) e p = (k, e, p)
 
-closed-marked : (o : Opened) (i : ℕ) → HasMark o i 1 → isMarked o i ≡ true
+closed-marked : (o : SheetRead) (i : ℕ) → HasMark o i 1 → isMarked o i ≡ true
 closed-marked o i h = eq-eqb _ 1 (ap markOf (h .1) ∙ h .2)
 
 -- ---- the row of a link, by its state
-abbrev rowAt : Opened → Link → ℕ → Row
+abbrev rowAt : SheetRead → Link → ℕ → Row
 rowAt o l state = record { producer = l .producer; consumer = l .consumer; state = state; verdict = verdictIn (o .table) l }
 
 -- the open room is the sum over open links: with one more
-one-more : (o : Opened) (l : Link) (p q : Bool) (rest : List Row) (n : ℕ) → n ≡ total (map sizeOfRow rest)
+one-more : (o : SheetRead) (l : Link) (p q : Bool) (rest : List Row) (n : ℕ) → n ≡ total (map sizeOfRow rest)
     → openSizeOf (rowAt o l (either p q)) + n ≡ total (map sizeOfRow (withIf (isOpen (rowAt o l (either p q))) (rowAt o l (either p q)) rest))
 unfolding total
 one-more o l true q rest n h = zero-add n ∙ h
 one-more o l false true rest n h = zero-add n ∙ h
 one-more o l false false rest n h = ap (λ (m : ℕ). sizeIn (verdictIn (o .table) l) + m) h
 
-open-sum : (o : Opened) (ls : List Link) → total (map openSizeOf (map (rowOf o) ls)) ≡ total (map sizeOfRow (those isOpen (map (rowOf o) ls)))
+open-sum : (o : SheetRead) (ls : List Link) → total (map openSizeOf (map (rowOf o) ls)) ≡ total (map sizeOfRow (those isOpen (map (rowOf o) ls)))
 unfolding total those
 open-sum o [] = refl
 open-sum o (l ∷ ls) = one-more o l (isMarked o (l .producer)) (isMarked o (l .consumer)) (those isOpen (map (rowOf o) ls)) _ (open-sum o ls)
 
-pub link-states : (o : Opened) → LinkStates o
+pub link-states : (o : SheetRead) → LinkStates o
 unfolding openRoom
 link-states o =
     record {
@@ -98,7 +98,7 @@ those-if f true x xs = refl
 those-if f false x xs = refl
 
 -- a link between ends that were marked or not (p, q) and are now chosen or not (a, b)
-one-open : (o : Opened) (l : Link) (p q a b : Bool) (rest : List Row)
+one-open : (o : SheetRead) (l : Link) (p q a b : Bool) (rest : List Row)
     → withIf (isOpen (rowAt o l (either (p || a) (q || b)))) (rowAt o l (either (p || a) (q || b))) rest
     ≡ withIf (isOpen (rowAt o l (either p q)) && not (a || b)) (rowAt o l (either p q)) rest
 one-open o l true q a b rest = refl
@@ -108,7 +108,7 @@ one-open o l false false true b rest = refl
 one-open o l false false false true rest = refl
 one-open o l false false false false rest = refl
 
-module _ (t : ℕ → Bool) (o : Opened) where
+module _ (t : ℕ → Bool) (o : SheetRead) where
   -- a clock that is there is marked after if it was or is chosen
   marked-after : (i : ℕ) → i < length (o .sheet .clocks) → isMarked (closeIn t o) i ≡ (isMarked o i || t i)
   marked-after i h =

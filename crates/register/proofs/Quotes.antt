@@ -13,7 +13,7 @@ use Rattle.field.proofs.Spelling.{part}
 use Rattle.expression.specs.Expression.{Clock, spell, spellClock}
 use Rattle.expression.proofs.Lookup.{lookup-below}
 use Rattle.sheet.specs.Reader.{readSheet}
-use Rattle.sheet.specs.Opened.{Opened}
+use Rattle.sheet.specs.SheetRead.{SheetRead}
 use Rattle.sheet.proofs.Spelling.Sheets.{Opens}
 use Rattle.sheet.specs.Locating.{clockPlace, locatedIn}
 use Rattle.register.specs.Quoting.{quotingOf, quotedFrom, quotedPart}
@@ -26,7 +26,7 @@ pub quoting-refused : (s : List ℕ) (i number place : ℕ) → readSheet s ≡ 
 unfolding quotingOf locatedIn
 quoting-refused s i number place h = rw h
 
-module _ (s : List ℕ) (i : ℕ) (o : Opened) (c : ℕ) (read : readSheet s ≡ got o c) where
+module _ (s : List ℕ) (i : ℕ) (o : SheetRead) (c : ℕ) (read : readSheet s ≡ got o c) where
   pub quoting-absent : getElem? (o .sheet .clocks) i ≡ none → quotingOf s i ≡ refused noClock 0
   unfolding quotingOf locatedIn
   quoting-absent e = rw (read, e)
@@ -35,7 +35,7 @@ module _ (s : List ℕ) (i : ℕ) (o : Opened) (c : ℕ) (read : readSheet s ≡
   unfolding quotingOf locatedIn
   quoting-there k e = rw (read, e)
 
-module _ (s : List ℕ) (i : ℕ) (o : Opened) (c : ℕ) (opens : Opens s o c) (k : Clock) (e : getElem? (o .sheet .clocks) i ≡ some k) where
+module _ (s : List ℕ) (i : ℕ) (o : SheetRead) (c : ℕ) (opens : Opens s o c) (k : Clock) (e : getElem? (o .sheet .clocks) i ≡ some k) where
   there : quotingOf s i ≡ got (clockPlace (o .sheet) i + 1) (clockPlace (o .sheet) i + length (spellClock k))
   there = quoting-there s i o c (opens-read s o c opens) k e
 

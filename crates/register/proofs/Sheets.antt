@@ -12,7 +12,7 @@ use Rattle.field.proofs.Spelling.{bytesOf-length}
 use Rattle.expression.specs.Expression.{Clock, spellWord, spellClock}
 use Rattle.sheet.specs.Sheet.{Sheet, spellLink, rows, section, spellSheet, Each, LinkRow, Legal}
 use Rattle.sheet.specs.Reader.{readSheet}
-use Rattle.sheet.specs.Opened.{Opened}
+use Rattle.sheet.specs.SheetRead.{SheetRead}
 use Rattle.sheet.proofs.Spelling.Sheets.{Opens, sheet-read}
 use Rattle.sheet.specs.Locating.{clockPlace}
 use Rattle.register.specs.Inner.Marking.{markClocks, closeSheet, closeIn}
@@ -64,7 +64,7 @@ module _ (t : ℕ → Bool) where
       }
 
   -- the bytes of the sheet with those clocks marked open it, with the same table
-  pub close-opens : (s : List ℕ) (o : Opened) (c : ℕ) → Opens s o c → Opens (spellSheet (closeSheet t (o .sheet))) (closeIn t o) c
+  pub close-opens : (s : List ℕ) (o : SheetRead) (c : ℕ) → Opens s o c → Opens (spellSheet (closeSheet t (o .sheet))) (closeIn t o) c
   close-opens s o c h =
       record {
         legal = close-legal (o .sheet) (h .legal);
@@ -74,11 +74,11 @@ module _ (t : ℕ → Bool) where
       }
 
   -- where marking changes no clock, the sheet is as it was
-  pub kept-same : (o : Opened) → markClocks t (o .sheet .clocks) ≡ o .sheet .clocks → closeIn t o ≡ o
+  pub kept-same : (o : SheetRead) → markClocks t (o .sheet .clocks) ≡ o .sheet .clocks → closeIn t o ≡ o
   kept-same o e = ap (λ (ks : List Clock). record { sheet = record { words = o .sheet .words; clocks = ks; links = o .sheet .links }; table = o .table }) e
 
 -- bytes that open a sheet are read as that sheet
-pub opens-read : (s : List ℕ) (o : Opened) (c : ℕ) → Opens s o c → readSheet s ≡ got o c
+pub opens-read : (s : List ℕ) (o : SheetRead) (c : ℕ) → Opens s o c → readSheet s ≡ got o c
 opens-read s o c h =
     let n : length (spellSheet (o .sheet)) ≡ c = ap length (sym (h .bytes)) ∙ sym (h .end) in
     ap readSheet (h .bytes) ∙ sheet-read (o .sheet) (o .table) (h .legal) (h .worked) ∙ ap (λ (m : ℕ). got o m) n

@@ -13,10 +13,10 @@ use Rattle.field.specs.Read.{Read, Read.got, Read.refused}
 use Rattle.field.proofs.Read.{refused-got, same-refused}
 use Rattle.expression.specs.Expression.{Clock}
 use Rattle.sheet.specs.Reader.{readSheet}
-use Rattle.sheet.specs.Opened.{Opened}
+use Rattle.sheet.specs.SheetRead.{SheetRead}
 use Rattle.sheet.specs.Format.{Refused}
 use Rattle.sheet.proofs.Refusing.Format.{refused-listed, listed-refused, accepted-passed, passed-accepted}
-use Rattle.register.specs.Closing.{closingOf, closingReply, numberOf, placeOf}
+use Rattle.register.specs.Closing.{closingOf, closingReply, closingNumber, closingPlace}
 use Rattle.register.specs.Quoting.{quotingOf, quoteReply}
 use Rattle.register.specs.Table.{QuoteRefused, CloseRefused}
 use Rattle.register.proofs.Closes.{past-the-last, closing-refused, closing-absent, closing-already, closing-open}
@@ -24,15 +24,15 @@ use Rattle.register.proofs.Quotes.{quoting-refused, quoting-absent, quo
 
 -- a text is refused, or has no clock i, or has it
 pub by-case : {P : Type 0} (s : List ℕ) (i : ℕ) → ((number place : ℕ) → readSheet s ≡ refused number place → P)
-    → ((o : Opened) (c : ℕ) → readSheet s ≡ got o c → getElem? (o .sheet .clocks) i ≡ none → P)
-    → ((o : Opened) (c : ℕ) (k : Clock) → readSheet s ≡ got o c → getElem? (o .sheet .clocks) i ≡ some k → P) → P
+    → ((o : SheetRead) (c : ℕ) → readSheet s ≡ got o c → getElem? (o .sheet .clocks) i ≡ none → P)
+    → ((o : SheetRead) (c : ℕ) (k : Clock) → readSheet s ≡ got o c → getElem? (o .sheet .clocks) i ≡ some k → P) → P
 by-case {P} s i refusal absent there = sheet (readSheet s) refl
   where
-    clock : (o : Opened) (c : ℕ) → readSheet s ≡ got o c → (r : Option Clock) → getElem? (o .sheet .clocks) i ≡ r → P
+    clock : (o : SheetRead) (c : ℕ) → readSheet s ≡ got o c → (r : Option Clock) → getElem? (o .sheet .clocks) i ≡ r → P
     clock o c h none e = absent o c h e
     clock o c h (some k) e = there o c k h e
 
-    sheet : (r : Read Opened) → readSheet s ≡ r → P
+    sheet : (r : Read SheetRead) → readSheet s ≡ r → P
     sheet (got o c) h = clock o c h (getElem? (o .sheet .clocks) i) refl
     sheet (refused number place) h = refusal number place h
 
@@ -62,7 +62,7 @@ module _ (s : List ℕ) (i : ℕ) where
       (λ o c r e. same-refused (CloseRefused s i) (sym (closing-absent s i o c r e) ∙ h) (CloseRefused.unquoted (QuoteRefused.no-clock o (accepted-passed s o c r .0) (none-past (o .sheet .clocks) i e))))
       (λ o c k r e. marked o c k r e (eqb (k .state) 1) refl)
     where
-      marked : (o : Opened) (c : ℕ) (k : Clock) → readSheet s ≡ got o c → getElem? (o .sheet .clocks) i ≡ some k → (b : Bool) → eqb (k .state) 1 ≡ b → CloseRefused s i number place
+      marked : (o : SheetRead) (c : ℕ) (k : Clock) → readSheet s ≡ got o c → getElem? (o .sheet .clocks) i ≡ some k → (b : Bool) → eqb (k .state) 1 ≡ b → CloseRefused s i number place
       marked o c k r e true q =
           let shut : k .state ≡ 1 = eqb-true (k .state) 1 q in
           same-refused (CloseRefused s i) (sym (closing-already s i o c r k e shut) ∙ h) (CloseRefused.already o (accepted-passed s o c r .0) (k, e, shut))
@@ -78,7 +78,7 @@ module _ (s : List ℕ) (i : ℕ) where
   quoted-as (got from to) number place n = (λ h. absurd (n (sym (h .0))), λ h. refused-got (sym h))
   quoted-as (refused m q) number place n = (λ h. ap₂ {A = ℕ} {B = ℕ} {C = Read ℕ} (λ x y. refused x y) (h .0) (h .1), λ h. (cc, cc))
 
-  closed-as : (x : Read ℕ) (number place : ℕ) → number ≢ 0 → ((numberOf (closingReply x) ≡ number) × (placeOf (closingReply x) ≡ place)) ↔ (x ≡ refused number place)
+  closed-as : (x : Read ℕ) (number place : ℕ) → number ≢ 0 → ((closingNumber (closingReply x) ≡ number) × (closingPlace (closingReply x) ≡ place)) ↔ (x ≡ refused number place)
   closed-as (got at c) number place n = (λ h. absurd (n (sym (h .0))), λ h. refused-got (sym h))
   closed-as (refused m q) number place n = (λ h. ap₂ {A = ℕ} {B = ℕ} {C = Read ℕ} (λ x y. refused x y) (h .0) (h .1), λ h. (cc, cc))
 
@@ -89,7 +89,7 @@ module _ (s : List ℕ) (i : ℕ) where
       (λ h. quoting-listed number place (e .0 h), λ h. e .1 (listed-quoting h))
 
   pub closing-exactly : (number place : ℕ) → number ≢ 0
-      → ((numberOf (closingReply (closingOf s i)) ≡ number) × (placeOf (closingReply (closingOf s i)) ≡ place)) ↔ CloseRefused s i number place
+      → ((closingNumber (closingReply (closingOf s i)) ≡ number) × (closingPlace (closingReply (closingOf s i)) ≡ place)) ↔ CloseRefused s i number place
   closing-exactly number place n =
       let e = closed-as (closingOf s i) number place n in
       (λ h. closing-listed number place (e .0 h), λ h. e .1 (listed-closing h))

@@ -21,13 +21,13 @@ closingReply (got place c) = Closing.Closed place
 closingReply (refused number place) = Closing.Refused number place
 
 -- its number and place on paper: 0 and the place of the byte, or the refusal's
-abbrev pub numberOf : Closing → ℕ
-numberOf (Closing.Closed place) = 0
-numberOf (Closing.Refused number place) = number
+abbrev pub closingNumber : Closing → ℕ
+closingNumber (Closing.Closed place) = 0
+closingNumber (Closing.Refused number place) = number
 
-abbrev pub placeOf : Closing → ℕ
-placeOf (Closing.Closed place) = place
-placeOf (Closing.Refused number place) = place
+abbrev pub closingPlace : Closing → ℕ
+closingPlace (Closing.Closed place) = place
+closingPlace (Closing.Refused number place) = place
 
 -- "Closing turns one state byte from 0 to 1"; on a refusal "no lent memory is written"
 abbrev pub closedBytes : Read ℕ → List ℕ → List ℕ

@@ -8,7 +8,7 @@ use lib.Dec.{eqb}
 use Rattle.link.specs.declared.Row.{Row}
 use Rattle.field.specs.Spelling.{AllBytes}
 use Rattle.sheet.specs.Sheet.{Link}
-use Rattle.sheet.specs.Opened.{Opened}
+use Rattle.sheet.specs.SheetRead.{SheetRead}
 use Rattle.sheet.specs.Format.{Passed}
 use Rattle.sheet.specs.Rooms.{rowOf, rowsOf, total, sizeOfRow, openRoom}
 use Rattle.register.specs.Table.{HasMark}
@@ -32,7 +32,7 @@ abbrev pub untouched : (ℕ → Bool) → Row → Bool
 untouched chosen r = not (chosen (r .producer) || chosen (r .consumer))
 
 -- the states of a sheet's links
-pub record LinkStates (o : Opened) : Type 0 where
+pub record LinkStates (o : SheetRead) : Type 0 where
   -- "A link is closed when its producer or its consumer is marked closed"
   pub closed-by-an-end : (l : Link) → HasMark o (l .producer) 1 ⊎ HasMark o (l .consumer) 1 → rowOf o l .state ≡ 1
   pub only-by-an-end : (l : Link) → rowOf o l .state ≡ 1 → HasMark o (l .producer) 1 ⊎ HasMark o (l .consumer) 1
@@ -41,7 +41,7 @@ pub record LinkStates (o : Opened) : Type 0 where
   pub open-room : openRoom o ≡ total (map sizeOfRow (those isOpen (rowsOf o)))
 
 pub record OpenLinks : Type 0 where
-  pub states : (o : Opened) → LinkStates o
+  pub states : (o : SheetRead) → LinkStates o
   -- after clocks are closed, the links still open are those that were open and have no end among them
-  pub still-open : (s : List ℕ) → AllBytes s → (is t : List ℕ) → ClosedInTurn is s t → (o after : Opened) → Passed s o → Passed t after
+  pub still-open : (s : List ℕ) → AllBytes s → (is t : List ℕ) → ClosedInTurn is s t → (o after : SheetRead) → Passed s o → Passed t after
       → those isOpen (rowsOf after) ≡ those (untouched (among is)) (those isOpen (rowsOf o))

@@ -9,7 +9,7 @@ use lib.Dec.{eqb}
 use lib.ListN.{length, take, drop, getD, getElem?}
 use Rattle.expression.specs.Expression.{Clock}
 use Rattle.sheet.specs.Sheet.{Link}
-use Rattle.sheet.specs.Opened.{Opened}
+use Rattle.sheet.specs.SheetRead.{SheetRead}
 use Rattle.sheet.specs.Format.{ClockAt, Passed}
 use Rattle.sheet.specs.Rooms.{rowOf, wholeRoom}
 use Rattle.register.specs.declared.Closing.{Closing}
@@ -18,7 +18,7 @@ use Rattle.register.specs.Closing.{Closes}
 -- ---- closing
 
 -- "Closing a clock alters one mark in the sheet and no envelope, verdict, size or whole total": a sheet before and after the chosen clocks are closed
-pub record Alters (chosen : ℕ → Bool) (before after : Opened) : Type 0 where
+pub record Alters (chosen : ℕ → Bool) (before after : SheetRead) : Type 0 where
   -- a chosen clock is marked closed, and keeps its expression
   pub marks : (i : ℕ) (k : Clock) → getElem? (before .sheet .clocks) i ≡ some k → chosen i ≡ true → getElem? (after .sheet .clocks) i ≡ some (record { state = 1; expr = k .expr })
   -- any other is as it was, whatever it is built over: "a clock built over a closed one keeps its own mark"
@@ -35,9 +35,9 @@ abbrev pub only : ℕ → ℕ → Bool
 only i j = eqb i j
 
 -- clock i of the sheet o was open and is closed: from the bytes s to the bytes t, by the byte at `place`
-pub record OneClosed (s : List ℕ) (i : ℕ) (o : Opened) (place : ℕ) (t : List ℕ) : Type 0 where
+pub record OneClosed (s : List ℕ) (i : ℕ) (o : SheetRead) (place : ℕ) (t : List ℕ) : Type 0 where
   -- the bytes are a sheet, the one that was there but for one mark
-  pub after : Opened
+  pub after : SheetRead
   pub passes : Passed t after
   pub alters : Alters (only i) o after
   -- the byte where the clock begins turns from 0 to 1, and no other is altered

@@ -73,7 +73,7 @@ fn find(s: &[u8], i: usize) -> Field
     let mut ends = [0u8; 512];
     match sheet::read(s, &mut table, &mut states, &mut ends) {
         Reading::Refused(number, place) => Field::Refused(number, place),
-        Reading::Whole(found) => {
+        Reading::Got(found) => {
             if found.clocks <= i {
                 return Field::Refused(reply::NO_CLOCK, 0);
             }

@@ -21,7 +21,7 @@ use Rattle.link.specs.Link.{sizeIn, openSizeOf}
 use Rattle.expression.specs.Inner.Nodes.{AllTaken}
 use Rattle.sheet.specs.Sheet.{Link, LinkRow, Each}
 use Rattle.sheet.specs.Reader.{readSheet}
-use Rattle.sheet.specs.Opened.{Opened}
+use Rattle.sheet.specs.SheetRead.{SheetRead}
 use Rattle.sheet.specs.Rooms.{rowOf, rowsOf, total, sizeOfRow}
 use Rattle.sheet.specs.Inner.Sections.{stateOfClock}
 use Rattle.sheet.proofs.Tables.LinkRows.{row-small, open-most}
@@ -92,7 +92,7 @@ clocks-most i (state ∷ ss) (x ∷ xs) t h =
     let rest = clocks-most (suc i) ss xs (λ j. t (suc j)) (omega arith) in
     simp length-append (omega arith)
 
-module _ (o : Opened) (t : AllTaken (o .table)) (m : ℕ) (few : m ≤ 1000) where
+module _ (o : SheetRead) (t : AllTaken (o .table)) (m : ℕ) (few : m ≤ 1000) where
   links-most : (i : ℕ) (ks ls : List Link) → Each (λ xs l. LinkRow m l) ks ls → i + length ls ≤ 1000 → length (linkLines i (map (rowOf o) ls)) ≤ 44 * length ls
   unfolding linkLines
   links-most i ks [] e h = omega arith
@@ -110,7 +110,7 @@ module _ (o : Opened) (t : AllTaken (o .table)) (m : ℕ) (few : m ≤ 1000) whe
       let rest = rooms-most ls in
       (omega arith, omega arith)
 
-pub listing-most : (s : List ℕ) → AllBytes s → (o : Opened) (c : ℕ) → readSheet s ≡ got o c → length (sheetText o) ≤ listingMost
+pub listing-most : (s : List ℕ) → AllBytes s → (o : SheetRead) (c : ℕ) → readSheet s ≡ got o c → length (sheetText o) ≤ listingMost
 unfolding wholeText
 listing-most s bytes o c h =
     let g = sheet-reads s bytes o c h in

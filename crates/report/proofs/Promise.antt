@@ -10,7 +10,7 @@ use Rattle.reply.specs.Numbers.{shortResult}
 use Rattle.field.specs.Read.{Read.got, Read.refused}
 use Rattle.field.proofs.Read.{through, cond-left}
 use Rattle.sheet.specs.Reader.{readSheet}
-use Rattle.sheet.specs.Opened.{Opened}
+use Rattle.sheet.specs.SheetRead.{SheetRead}
 use Rattle.sheet.specs.Rooms.{rowOf, rowsOf, openRoom, wholeRoom}
 use Rattle.sheet.specs.WorkOut.{workedOf, clockNumbers, linkNumbers, flatten}
 use Rattle.sheet.proofs.Tables.Written.{flatten-length}
@@ -19,12 +19,12 @@ use Rattle.report.proofs.Bound.{listing-most}
 use Rattle.report.specs.Promise.{sheetLines, Shows, Listing}
 
 module _ (s : List ℕ) where
-  accepted : (o : Opened) (c : ℕ) → readSheet s ≡ got o c → listingOf s ≡ sheetLines o (openRoom o) (wholeRoom o)
+  accepted : (o : SheetRead) (c : ℕ) → readSheet s ≡ got o c → listingOf s ≡ sheetLines o (openRoom o) (wholeRoom o)
   unfolding listingOf wholeText openRoom wholeRoom
   accepted o c e = ap textOf e
 
   -- a sheet that is worked out was read
-  was-read : (A B : ℕ) (o : Opened) (c : ℕ) → workedOf s A B ≡ got o c → readSheet s ≡ got o c
+  was-read : (A B : ℕ) (o : SheetRead) (c : ℕ) → workedOf s A B ≡ got o c → readSheet s ≡ got o c
   unfolding workedOf
   was-read A B o c h =
       let r = through (readSheet s) _ o c h in
@@ -32,7 +32,7 @@ module _ (s : List ℕ) where
       let q = cond-left (leb (3 * length (r .0 .sheet .links)) B) _ shortResult 0 o c (p .1) in
       r .2 ∙ q .1
 
-  shows : (clocks links : List ℤ) (o : Opened) (c : ℕ) → readSheet s ≡ got o c → Shows s o (got o c) clocks links
+  shows : (clocks links : List ℤ) (o : SheetRead) (c : ℕ) → readSheet s ≡ got o c → Shows s o (got o c) clocks links
   shows clocks links o c e =
       record {
         text = accepted o c e;

@@ -14,7 +14,7 @@ use Rattle.expression.specs.Inner.Nodes.{nodesIn}
 use Rattle.sheet.specs.declared.Found.{Found}
 use Rattle.sheet.specs.declared.Rooms.{Rooms}
 use Rattle.sheet.specs.Reader.{readSheet}
-use Rattle.sheet.specs.Opened.{Opened}
+use Rattle.sheet.specs.SheetRead.{SheetRead}
 use Rattle.sheet.specs.Inner.Sections.{foundOf, Tabled}
 use Rattle.sheet.proofs.Tables.Outcome.{rows-are, links-is, table-is, states}
 use Rattle.line.specs.Text.{Out, outOf, top, putLine, Put}
@@ -57,7 +57,7 @@ module _ (s text : List ℕ) where
   unfolding listedOf textAfter
   listed-refused number place e = record { answer-is = rw e; text-is = rw e }
 
-  module _ (bytes : AllBytes s) (o : Opened) (c : ℕ) (read : readSheet s ≡ got o c) (f : Found) (f-is : foundOf o ≡ f) (t : List ℤ) (ss es : List ℕ) (tabled : Tabled (readSheet s) t ss es) where
+  module _ (bytes : AllBytes s) (o : SheetRead) (c : ℕ) (read : readSheet s ≡ got o c) (f : Found) (f-is : foundOf o ≡ f) (t : List ℤ) (ss es : List ℕ) (tabled : Tabled (readSheet s) t ss es) where
     abbrev readText : List ℕ
     readText = tableText (take (4 * f .clocks) t) (take (f .clocks) ss) (take (2 * f .links) es)
 

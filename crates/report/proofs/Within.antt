@@ -10,12 +10,12 @@ use lib.ListN.{length}
 use lib.Seq.{sets, length-sets}
 use Rattle.field.specs.Read.{Read, Read.got, Read.refused}
 use Rattle.sheet.specs.Reader.{readSheet}
-use Rattle.sheet.specs.Opened.{Opened}
+use Rattle.sheet.specs.SheetRead.{SheetRead}
 use Rattle.report.specs.declared.Listed.{Listed}
 use Rattle.report.specs.Listing.{sheetText, listedIn, textIn, listedOf, textAfter, ListsInto}
 
 -- what is answered and left, by what was read
-text-fits : (x : Read Opened) (room n : ℕ) → listedIn x room ≡ Listed.Text n → n ≤ room
+text-fits : (x : Read SheetRead) (room n : ℕ) → listedIn x room ≡ Listed.Text n → n ≤ room
 text-fits (got o c) room n e = go (leb (length (sheetText o)) room) refl e
   where
     go : (b : Bool) → leb (length (sheetText o)) room ≡ b → cond b (Listed.Text (length (sheetText o))) (Listed.Refused 11 0) ≡ Listed.Text n → n ≤ room
@@ -24,7 +24,7 @@ text-fits (got o c) room n e = go (leb (length (sheetText o)) room) refl e
 text-fits (refused number place) room n e = let w : _≡_ {A = ℕ} 0 1 = cc in omega arith
 
 -- the buffer keeps its length
-same-length : (x : Read Opened) (text : List ℕ) → length (textIn x text) ≡ length text
+same-length : (x : Read SheetRead) (text : List ℕ) → length (textIn x text) ≡ length text
 same-length (got o c) text = go (leb (length (sheetText o)) (length text))
   where
     go : (b : Bool) → length (cond b (sets text 0 (sheetText o)) text) ≡ length text

@@ -15,7 +15,7 @@ use Rattle.link.specs.declared.Row.{Row}
 use Rattle.link.specs.Link.{sizeIn, openSizeOf}
 use Rattle.sheet.specs.Reader.{readSheet}
 use Rattle.expression.specs.Expression.{Clock}
-use Rattle.sheet.specs.Opened.{Opened}
+use Rattle.sheet.specs.SheetRead.{SheetRead}
 use Rattle.sheet.specs.Rooms.{rowsOf, total, sizeOfRow}
 use Rattle.line.specs.Letters.{letters}
 use Rattle.line.specs.Text.{digits, decimal, lineOf, outcomeFields}
@@ -68,14 +68,14 @@ wholeText ss xs rs =
     clockLines 0 ss xs ++ (linkLines 0 rs ++ lineOf (letters "room") (roomFields (total (map openSizeOf rs)) (total (map sizeOfRow rs))))
 
 -- the listing of a sheet that was read
-abbrev pub sheetText : Opened → List ℕ
+abbrev pub sheetText : SheetRead → List ℕ
 sheetText o = wholeText (map (λ (c : Clock). c .state) (o .sheet .clocks)) (o .table) (rowsOf o)
 
 -- 128 clock lines of 56 bytes, 256 link lines of 44 and a room line of 31: no listing is longer
 abbrev pub listingMost : ℕ
 listingMost = 18_463
 
-abbrev pub textOf : Read Opened → List ℕ
+abbrev pub textOf : Read SheetRead → List ℕ
 textOf (got o c) = sheetText o
 textOf (refused number place) = refusedLine number place
 
@@ -92,11 +92,11 @@ abbrev pub over : List ℕ → List ℕ → List ℕ
 over t text = cond (leb (length t) (length text)) (sets text 0 t) text
 
 -- a refused sheet's number and place go straight back, and nothing is written
-abbrev pub listedIn : Read Opened → ℕ → Listed
+abbrev pub listedIn : Read SheetRead → ℕ → Listed
 listedIn (got o c) room = fitted (sheetText o) room
 listedIn (refused number place) room = Listed.Refused number place
 
-abbrev pub textIn : Read Opened → List ℕ → List ℕ
+abbrev pub textIn : Read SheetRead → List ℕ → List ℕ
 textIn (got o c) text = over (sheetText o) text
 textIn (refused number place) text = text
 
@@ -107,14 +107,14 @@ unfoldable pub textAfter : List ℕ → List ℕ → List ℕ
 textAfter s text = textIn (readSheet s) text
 
 -- the number of the reply, 0 where the text is listed
-abbrev pub numberOf : Listed → ℕ
-numberOf (Listed.Text length) = 0
-numberOf (Listed.Refused number place) = number
+abbrev pub listedNumber : Listed → ℕ
+listedNumber (Listed.Text length) = 0
+listedNumber (Listed.Refused number place) = number
 
 -- and its place
-abbrev pub placeOf : Listed → ℕ
-placeOf (Listed.Text length) = 0
-placeOf (Listed.Refused number place) = place
+abbrev pub listedPlace : Listed → ℕ
+listedPlace (Listed.Text length) = 0
+listedPlace (Listed.Refused number place) = place
 
 -- the contract of `list`: its answer, and what the lent buffer holds at the end
 pub record ListsInto (s text : List ℕ) (answer : Listed) (text-end : List ℕ) : Type 0 where

@@ -167,7 +167,7 @@ pub fn list(sheet: &[u8], text: &mut [u8]) -> Listed
     let mut ends = [0u8; 512];
     match sheet::read(sheet, &mut table, &mut states, &mut ends) {
         Reading::Refused(number, place) => Listed::Refused(number, place),
-        Reading::Whole(f) => {
+        Reading::Got(f) => {
             let m = f.clocks;
             let n = f.links;
             let nodes = 4 * m;

@@ -20,13 +20,13 @@ use Rattle.expression.proofs.Lookup.{lookup-there}
 use Rattle.expression.proofs.Promise.{meaning}
 use Rattle.sheet.specs.Sheet.{Link, LinkRow, WordRow}
 use Rattle.sheet.specs.Reader.{readSheet}
-use Rattle.sheet.specs.Opened.{Opened}
+use Rattle.sheet.specs.SheetRead.{SheetRead}
 use Rattle.sheet.specs.Rooms.{verdictBetween, verdictIn}
 use Rattle.sheet.specs.Promise.{StreamOf}
 use Rattle.sheet.proofs.Spelling.Rows.{every-at, each-at}
 use Rattle.sheet.proofs.Spelling.Sheets.{Opens, sheet-reads}
 
-module _ (s : List ℕ) (bytes : AllBytes s) (o : Opened) (c : ℕ) (h : readSheet s ≡ got o c) where
+module _ (s : List ℕ) (bytes : AllBytes s) (o : SheetRead) (c : ℕ) (h : readSheet s ≡ got o c) where
   opens : Opens s o c
   opens = sheet-reads s bytes o c h
 

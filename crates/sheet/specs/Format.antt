@@ -12,7 +12,7 @@ use Rattle.expression.specs.Expression.{Word, depthMost}
 use Rattle.expression.specs.Evaluate.{wordNodes}
 use Rattle.expression.specs.Format.{expression}
 use Rattle.sheet.specs.Sheet.{Link, wordsMost, clocksMost, linksMost, bytesMost}
-use Rattle.sheet.specs.Opened.{ClockNode, clockOf, nodeOfClock, Opened}
+use Rattle.sheet.specs.SheetRead.{ClockNode, clockOf, nodeOfClock, SheetRead}
 
 -- n rows after those of xs, which a row may name
 unfoldable pub many : {A : Type 0} → (List A → Format A) → ℕ → List A → Format (List A)
@@ -53,12 +53,12 @@ unfoldable pub linkRow : ℕ → Format Link
 linkRow n = then (ranged 2 0 n 5) λ p. then (ranged 2 0 n 5) λ q. known {A = Link} (record { producer = p; consumer = q })
 
 -- "Three sections in this order"
-unfoldable pub sheet : Format Opened
+unfoldable pub sheet : Format SheetRead
 sheet =
     then (counted (λ xs. wordRow) wordsMost) λ ws.
     then (counted (clockRow (wordNodes ws)) clocksMost) λ rows.
     then (counted (λ xs. linkRow (length rows)) linksMost) λ ls.
-    known {A = Opened} (record { sheet = record { words = ws; clocks = map clockOf rows; links = ls }; table = map nodeOfClock rows })
+    known {A = SheetRead} (record { sheet = record { words = ws; clocks = map clockOf rows; links = ls }; table = map nodeOfClock rows })
 
 -- where clock i begins: before it stand the words, the u16 count of the clocks and the clocks before it
 unfoldable pub upTo : ℕ → Format (List ClockNode)
@@ -75,10 +75,10 @@ pub data Refused (s : List ℕ) : ℕ → ℕ → Type 0 where
   -- and fails its test, with the test's number
   faulty : {number place : ℕ} → length s ≤ bytesMost → Fault s sheet 0 number place → Refused s number place
   -- 10: "bytes after the last link": the first
-  bytes-after : (o : Opened) {place : ℕ} → length s ≤ bytesMost → Piece s sheet 0 o place → place < length s → Refused s 10 place
+  bytes-after : (o : SheetRead) {place : ℕ} → length s ≤ bytesMost → Piece s sheet 0 o place → place < length s → Refused s 10 place
 
 -- a text that none of those refuses: it is right, to its end
-pub record Passed (s : List ℕ) (o : Opened) : Type 0 where
+pub record Passed (s : List ℕ) (o : SheetRead) : Type 0 where
   pub short-enough : length s ≤ bytesMost
   pub right : Piece s sheet 0 o (length s)
 
@@ -86,4 +86,4 @@ pub record Passed (s : List ℕ) (o : Opened) : Type 0 where
 pub data WorkRefused (s : List ℕ) (clocks links : ℕ) : ℕ → ℕ → Type 0 where
   in-sheet : {number place : ℕ} → Refused s number place → WorkRefused s clocks links number place
   -- 11: "a lent result slice is too short": 0. "11 comes after the whole sheet has passed."
-  too-short : (o : Opened) → Passed s o → (clocks < 4 * length (o .table)) ⊎ (links < 3 * length (o .sheet .links)) → WorkRefused s clocks links 11 0
+  too-short : (o : SheetRead) → Passed s o → (clocks < 4 * length (o .table)) ⊎ (links < 3 * length (o .sheet .links)) → WorkRefused s clocks links 11 0

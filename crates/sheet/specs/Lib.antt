@@ -1,5 +1,5 @@
 pub mod Sheet
-pub mod Opened
+pub mod SheetRead
 pub mod Reader
 pub mod Format
 pub mod Rooms

@@ -21,14 +21,14 @@ use Rattle.expression.specs.Spelled.{InRange}
 use Rattle.expression.specs.Blame.{blame}
 use Rattle.sheet.specs.Sheet.{Link, Sheet, wordsMost, clocksMost, bytesMost, rows, section, spellSheet, Every, WordRow, ClockRow, Legal}
 use Rattle.sheet.specs.Reader.{readSheet}
-use Rattle.sheet.specs.Opened.{Opened}
+use Rattle.sheet.specs.SheetRead.{SheetRead}
 use Rattle.sheet.specs.Format.{sheet, Refused, Passed}
 use Rattle.sheet.specs.Rooms.{verdictIn}
 
 -- bytes and values are tied
 pub record Tie (s : List ℕ) : Type 0 where
   -- what is accepted is a legal sheet with the table that the rules give it, and its spelling is the text, all of it
-  pub accepted-is-spelled : (o : Opened) (c : ℕ) → readSheet s ≡ got o c
+  pub accepted-is-spelled : (o : SheetRead) (c : ℕ) → readSheet s ≡ got o c
       → Legal (o .sheet) × Worked (o .sheet .words) (o .sheet .clocks) (o .table) × (s ≡ spellSheet (o .sheet)) × (c ≡ length s)
   -- every legal sheet that the rules give a table is accepted, with that table
   pub spelled-is-accepted : (v : Sheet) (xs : List Node) → Legal v → Worked (v .words) (v .clocks) xs → s ≡ spellSheet v
@@ -38,20 +38,20 @@ pub record Tie (s : List ℕ) : Type 0 where
       → (v ≡ u) × (xs ≡ ys)
 
 -- "whichever streams the two clocks can stand for, or any others inside their envelopes": a is one that clock i can stand for, or lies in its envelope
-abbrev pub StreamOf : Opened → ℕ → Stream → Type 0
+abbrev pub StreamOf : SheetRead → ℕ → Stream → Type 0
 StreamOf o i a = Stands (o .sheet .words) (o .sheet .clocks) (Expr.clock i) a ⊎ ((x : Node) × (getElem? (o .table) i ≡ some x) × Lies a (x .envelope))
 
 -- what an accepted sheet's links keep to
 pub record Served (s : List ℕ) : Type 0 where
   -- for every accepted link, after any number of instants, reads never exceed writes, and writes minus reads never exceed the size given
-  pub serves : (o : Opened) (c : ℕ) → readSheet s ≡ got o c → (m : ℕ) (l : Link) (size : ℕ)
+  pub serves : (o : SheetRead) (c : ℕ) → readSheet s ≡ got o c → (m : ℕ) (l : Link) (size : ℕ)
       → getElem? (o .sheet .links) m ≡ some l → verdictIn (o .table) l ≡ Accepted size
       → (a b : Stream) → StreamOf o (l .producer) a → StreamOf o (l .consumer) b → Serves a b size
   -- every clock can stand for some stream
-  pub some-stream : (o : Opened) (c : ℕ) → readSheet s ≡ got o c → (i : ℕ) → i < length (o .sheet .clocks)
+  pub some-stream : (o : SheetRead) (c : ℕ) → readSheet s ≡ got o c → (i : ℕ) → i < length (o .sheet .clocks)
       → (a : Stream) × Stands (o .sheet .words) (o .sheet .clocks) (Expr.clock i) a
   -- every envelope in the table is taken
-  pub taken : (o : Opened) (c : ℕ) → readSheet s ≡ got o c → AllTaken (o .table)
+  pub taken : (o : SheetRead) (c : ℕ) → readSheet s ≡ got o c → AllTaken (o .table)
 
 -- a text that is right up to a clock k: the words, a count, the clocks before k with their nodes xs, then k, and any bytes
 pub record UpTo (s : List ℕ) (words : List Word) (clocks : List Clock) (xs : List Node) (k : Clock) : Type 0 where
@@ -76,7 +76,7 @@ pub record Refusals (s : List ℕ) : Type 0 where
   -- "Reply numbers", 1 to 10: each is given exactly when the table says, with its place
   pub given : (number place : ℕ) → (readSheet s ≡ refused number place) ↔ Refused s number place
   -- and the rest is accepted: what is right to its end
-  pub accepted : (o : Opened) (c : ℕ) → (readSheet s ≡ got o c) ↔ (Passed s o × (c ≡ length s))
+  pub accepted : (o : SheetRead) (c : ℕ) → (readSheet s ≡ got o c) ↔ (Passed s o × (c ≡ length s))
   -- "bytes after the last link": the first
   pub bytes-after : (v : Sheet) (xs : List Node) (x : ℕ) (rest : List ℕ) → Legal v → Worked (v .words) (v .clocks) xs → s ≡ spellSheet v ++ (x ∷ rest) → length s ≤ bytesMost
       → readSheet s ≡ refused trailing (length (spellSheet v))

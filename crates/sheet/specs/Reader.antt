@@ -13,7 +13,7 @@ use Rattle.expression.specs.Expression.{Word, Clock, depthMost}
 use Rattle.expression.specs.Evaluate.{wordNodes}
 use Rattle.expression.specs.Reader.{exprAt}
 use Rattle.sheet.specs.Sheet.{Link, Sheet, wordsMost, clocksMost, linksMost, bytesMost}
-use Rattle.sheet.specs.Opened.{ClockNode, clockOf, nodeOfClock, Opened}
+use Rattle.sheet.specs.SheetRead.{ClockNode, clockOf, nodeOfClock, SheetRead}
 
 -- n rows from a on, after those of xs; `row xs a` reads one
 unfoldable pub rowsAt : {A : Type 0} → (List A → ℕ → Read A) → ℕ → List A → ℕ → Read (List A)
@@ -53,23 +53,23 @@ linkAt s n xs a =
     got (record { producer = p; consumer = q }) d
 
 -- the words, the clocks' rows and the links, as a sheet
-abbrev pub openedOf : List Word → List ClockNode → List Link → Opened
-openedOf ws rows ls = record { sheet = record { words = ws; clocks = map clockOf rows; links = ls }; table = map nodeOfClock rows }
+abbrev pub asRead : List Word → List ClockNode → List Link → SheetRead
+asRead ws rows ls = record { sheet = record { words = ws; clocks = map clockOf rows; links = ls }; table = map nodeOfClock rows }
 
 -- the links and the end, from a on: after the words ws and the clocks of rows
-unfoldable pub linksOn : List ℕ → List Word → List ClockNode → ℕ → Read Opened
+unfoldable pub linksOn : List ℕ → List Word → List ClockNode → ℕ → Read SheetRead
 linksOn s ws rows a =
     bind (sectionAt (linkAt s (length rows)) linksMost s a) λ ls c.
-    cond (eqb c (length s)) (got (openedOf ws rows ls) c) (refused trailing c)
+    cond (eqb c (length s)) (got (asRead ws rows ls) c) (refused trailing c)
 
 -- the clocks and what follows them
-unfoldable pub clocksOn : List ℕ → List Word → ℕ → Read Opened
+unfoldable pub clocksOn : List ℕ → List Word → ℕ → Read SheetRead
 clocksOn s ws a = bind (sectionAt (clockAt s (wordNodes ws)) clocksMost s a) λ rows c. linksOn s ws rows c
 
 -- the sections, from a on
-unfoldable pub readFrom : ℕ → List ℕ → Read Opened
+unfoldable pub readFrom : ℕ → List ℕ → Read SheetRead
 readFrom a s = bind (sectionAt (λ xs a. wordAt s a) wordsMost s a) λ ws c. clocksOn s ws c
 
 -- "Length is tested first. Then the sheet is read left to right and the first fault is given."
-unfoldable pub readSheet : List ℕ → Read Opened
+unfoldable pub readSheet : List ℕ → Read SheetRead
 readSheet s = cond (leb (length s) bytesMost) (readFrom 0 s) (refused beyond bytesMost)

@@ -10,7 +10,7 @@ use Rattle.link.specs.declared.Row.{Row}
 use Rattle.link.specs.Link.{verdictOf, sizeIn, stateOf, openSizeOf}
 use Rattle.expression.specs.Expression.{Clock}
 use Rattle.sheet.specs.Sheet.{Link}
-use Rattle.sheet.specs.Opened.{Opened}
+use Rattle.sheet.specs.SheetRead.{SheetRead}
 
 -- the verdict on a link between two nodes (a link whose end is missing stands in no legal sheet)
 abbrev pub verdictBetween : Option Node → Option Node → Verdict
@@ -27,7 +27,7 @@ markOf none = 0
 markOf (some c) = c .state
 
 -- "Each link row holds its ends, its state, and its verdict"
-abbrev pub rowOf : Opened → Link → Row
+abbrev pub rowOf : SheetRead → Link → Row
 rowOf o l =
     record {
       producer = l .producer;
@@ -36,7 +36,7 @@ rowOf o l =
       verdict = verdictIn (o .table) l;
     }
 
-abbrev pub rowsOf : Opened → List Row
+abbrev pub rowsOf : SheetRead → List Row
 rowsOf o = map (rowOf o) (o .sheet .links)
 
 unfoldable pub total : List ℕ → ℕ
@@ -44,11 +44,11 @@ total [] = 0
 total (x ∷ xs) = x + total xs
 
 -- "Open room is the sum of sizes over accepted open links, whole room over all accepted links."
-unfoldable pub openRoom : Opened → ℕ
+unfoldable pub openRoom : SheetRead → ℕ
 openRoom o = total (map openSizeOf (rowsOf o))
 
 abbrev pub sizeOfRow : Row → ℕ
 sizeOfRow r = sizeIn (r .verdict)
 
-unfoldable pub wholeRoom : Opened → ℕ
+unfoldable pub wholeRoom : SheetRead → ℕ
 wholeRoom o = total (map sizeOfRow (rowsOf o))

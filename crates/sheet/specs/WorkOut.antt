@@ -10,20 +10,20 @@ use Rattle.reply.specs.Numbers.{shortResult}
 use Rattle.field.specs.Read.{Read, Read.got, Read.refused, bind}
 use Rattle.envelope.specs.declared.Node.{Node}
 use Rattle.link.specs.declared.Row.{Row}
-use Rattle.link.specs.Link.{numberOf, sizeIn}
+use Rattle.link.specs.Link.{verdictNumber, sizeIn}
 use Rattle.sheet.specs.declared.Reply.{Reply}
 use Rattle.sheet.specs.Reader.{readSheet}
-use Rattle.sheet.specs.Opened.{Opened}
+use Rattle.sheet.specs.SheetRead.{SheetRead}
 use Rattle.sheet.specs.Rooms.{rowsOf, openRoom, wholeRoom}
 
 -- "11: a lent result slice is too short", "after the whole sheet has passed": so many numbers for the clocks, so many for the links
-abbrev pub roomFor : ℕ → ℕ → Opened → ℕ → Read Opened
+abbrev pub roomFor : ℕ → ℕ → SheetRead → ℕ → Read SheetRead
 roomFor clocks links o c =
     cond (leb (4 * length (o .table)) clocks)
     (cond (leb (3 * length (o .sheet .links)) links) (got o c) (refused shortResult 0))
     (refused shortResult 0)
 
-unfoldable pub workedOf : List ℕ → ℕ → ℕ → Read Opened
+unfoldable pub workedOf : List ℕ → ℕ → ℕ → Read SheetRead
 workedOf s clocks links = bind (readSheet s) (roomFor clocks links)
 
 -- "A refusal returns number and place, every count and total 0"
@@ -31,7 +31,7 @@ abbrev pub refusalOf : ℕ → ℕ → Reply
 refusalOf number place = record { number = number; place = place; clocks = 0; links = 0; opened = 0; whole = 0 }
 
 -- "returning both counts and both rooms"
-abbrev pub replyOf : Read Opened → Reply
+abbrev pub replyOf : Read SheetRead → Reply
 replyOf (got o c) =
     record {
       number = 0;
@@ -49,7 +49,7 @@ clockNumbers x = x .envelope .k ∷ (x .envelope .K ∷ (pos (x .envelope .l) �
 
 -- "verdict (0 accepted, 1 rates, 2 early), size and state (0 open, 1 closed) per link"
 abbrev pub linkNumbers : Row → List ℤ
-linkNumbers r = pos (numberOf (r .verdict)) ∷ (pos (sizeIn (r .verdict)) ∷ (pos (r .state) ∷ []))
+linkNumbers r = pos (verdictNumber (r .verdict)) ∷ (pos (sizeIn (r .verdict)) ∷ (pos (r .state) ∷ []))
 
 -- the numbers of each, one after another
 unfoldable pub flatten : {A : Type 0} → (A → List ℤ) → List A → List ℤ
@@ -57,11 +57,11 @@ flatten f [] = []
 flatten f (x ∷ xs) = f x ++ flatten f xs
 
 -- "fills k, K, l, n per clock in one lent slice"; "elements past those stay as found"; on a refusal "no lent memory is written"
-abbrev pub clocksOut : Read Opened → List ℤ → List ℤ
+abbrev pub clocksOut : Read SheetRead → List ℤ → List ℤ
 clocksOut (got o c) t = flatten clockNumbers (o .table) ++ drop (4 * length (o .table)) t
 clocksOut (refused number place) t = t
 
-abbrev pub linksOut : Read Opened → List ℤ → List ℤ
+abbrev pub linksOut : Read SheetRead → List ℤ → List ℤ
 linksOut (got o c) t = flatten linkNumbers (rowsOf o) ++ drop (3 * length (o .sheet .links)) t
 linksOut (refused number place) t = t
 

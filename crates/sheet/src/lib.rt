@@ -248,7 +248,7 @@ pub struct Found {
 }
 
 pub enum Reading {
-    Whole(Found),
+    Got(Found),
     Refused(u8, usize),
 }
 
@@ -264,7 +264,7 @@ fn read_to_end(first: usize, start: Cursor, s: &[u8], m: usize, ends: &mut [u8])
             if past != s.len() {
                 return Reading::Refused(reply::TRAILING, past);
             }
-            Reading::Whole(Found {
+            Reading::Got(Found {
                 clocks: m,
                 links: n,
                 clockrows: first,
@@ -481,7 +481,7 @@ pub fn work_out(sheet: &[u8], clocks: &mut [i64], links: &mut [i64]) -> Reply
     let mut ends = [0u8; 512];
     match read(sheet, &mut table, &mut states, &mut ends) {
         Reading::Refused(number, place) => refuse(number, place),
-        Reading::Whole(f) => {
+        Reading::Got(f) => {
             let m = f.clocks;
             let n = f.links;
             let nodes = 4 * m;

@@ -7,9 +7,9 @@ use Rattle.envelope.specs.declared.Span.{Span}
 use Rattle.envelope.specs.Word.{smallest, largest, offsets}
 
 -- with one number more, the first where j is 0
-abbrev pub withOf : Span → ℤ → ℕ → Span
-withOf s x zero = record { k = x; K = x }
-withOf s x (suc j) = record { k = smaller x (s .k); K = larger x (s .K) }
+abbrev pub includingOf : Span → ℤ → ℕ → Span
+includingOf s x zero = record { k = x; K = x }
+includingOf s x (suc j) = record { k = smaller x (s .k); K = larger x (s .K) }
 
 -- of the 1s among the first t bits
 unfoldable pub spanOf : (ℕ → Bool) → ℕ → ℕ → ℕ → Span

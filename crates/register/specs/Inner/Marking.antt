@@ -4,7 +4,7 @@ use mathlib.Core.List.{List, [], _∷_}
 use Prim.Native.Nat.{ℕ, suc}
 use Rattle.expression.specs.Expression.{Clock}
 use Rattle.sheet.specs.Sheet.{Sheet}
-use Rattle.sheet.specs.Opened.{Opened}
+use Rattle.sheet.specs.SheetRead.{SheetRead}
 use Rattle.register.specs.Closing.{closingOf, closedBytes}
 
 -- "0 open, 1 closed"
@@ -25,7 +25,7 @@ abbrev pub closeSheet : (ℕ → Bool) → Sheet → Sheet
 closeSheet chosen v = record { words = v .words; clocks = markClocks chosen (v .clocks); links = v .links }
 
 -- and with the same table
-abbrev pub closeIn : (ℕ → Bool) → Opened → Opened
+abbrev pub closeIn : (ℕ → Bool) → SheetRead → SheetRead
 closeIn chosen o = record { sheet = closeSheet chosen (o .sheet); table = o .table }
 
 -- the bytes after the clocks of a list are closed one after another

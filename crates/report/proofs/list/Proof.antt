@@ -9,7 +9,7 @@ use Rattle.field.specs.Read.{Read.got}
 use Rattle.field.specs.Spelling.{AllBytes}
 use Rattle.sheet.specs.Sheet.{clocksMost, linksMost}
 use Rattle.sheet.specs.Reader.{readSheet}
-use Rattle.sheet.specs.Opened.{Opened}
+use Rattle.sheet.specs.SheetRead.{SheetRead}
 use Rattle.sheet.specs.Inner.Sections.{foundOf}
 use Rattle.sheet.proofs.Tables.Outcome.{reading-refused, reading-whole, clocks-few, links-few, ready}
 use Rattle.report.proofs.Texts.{listed-refused, listed-whole}
@@ -19,7 +19,7 @@ use Rattle.report.proofs.list.Tie as tie
 
 -- the sheet that was read, and that its rows are in the tables
 module _ (c : tie.After-known-told2) where
-  whole : (o : Opened) × (d : ℕ) × (readSheet (now (c .before .before .before .before .before .before .before .before .before .before .before .before .args .sheet)) ≡ got o d) × (foundOf o ≡ c .before .f .given .0 .0)
+  whole : (o : SheetRead) × (d : ℕ) × (readSheet (now (c .before .before .before .before .before .before .before .before .before .before .before .before .args .sheet)) ≡ got o d) × (foundOf o ≡ c .before .f .given .0 .0)
   whole = reading-whole _ _ (sym (c .before .f .given .1) ∙ c .before .before .before .before .before .before .read .ensures .0)
 
   bytes : AllBytes (now (c .before .before .before .before .before .before .before .before .before .before .before .before .args .sheet))

@@ -20,7 +20,7 @@ use Rattle.expression.specs.Spelled.{indexes, InRange}
 use Rattle.expression.specs.Blame.{blame}
 use Rattle.sheet.specs.Sheet.{Sheet, wordsMost, clocksMost, bytesMost, rows, section, spellSheet, Every, Each, WordRow, ClockRow, Legal}
 use Rattle.sheet.specs.Reader.{sectionAt, clockAt, linksOn, clocksOn, readFrom, readSheet}
-use Rattle.sheet.specs.Opened.{ClockNode, clockOf, nodeOfClock, Opened}
+use Rattle.sheet.specs.SheetRead.{ClockNode, clockOf, nodeOfClock, SheetRead}
 use Rattle.sheet.specs.Format.{sheet}
 use Rattle.sheet.specs.WorkOut.{workedOf}
 use Rattle.sheet.specs.Promise.{UpTo, exprPlace}
@@ -45,7 +45,7 @@ module _ (s : List ℕ) where
       let b = split (spellSheet v) (x ∷ rest) all in
       let k : b .0 ≢ length s = omega (arith, end (b .1) .0, ap length e, length-append (spellSheet v) (x ∷ rest)) in
       let c : b .0 ≡ length (spellSheet v) = omega (arith, end (b .1) .0) in
-      short-enough s m ∙ to-end s v xs 0 (b .0) l w (b .1) ∙ rw (ne-eqb (b .0) (length s) k) (ap {B = Read Opened} (λ (p : ℕ). refused trailing p) c)
+      short-enough s m ∙ to-end s v xs 0 (b .0) l w (b .1) ∙ rw (ne-eqb (b .0) (length s) k) (ap {B = Read SheetRead} (λ (p : ℕ). refused trailing p) c)
 
   -- ---- a clock that the rules refuse
   rows-to-fault : (words : List Word) (zs : List ClockNode) (k : Clock) (number m a b d e : ℕ) → length words ≤ wordsMost → Every WordRow words
@@ -83,7 +83,7 @@ module _ (s : List ℕ) where
       short-enough s (u .short-enough)
       ∙ rows-to-fault words zs k number m (b₁ .0) (b₂ .0) (b₃ .0) (b₄ .0) (u .words-most) (u .words-legal) (omega (arith, u .count-most)) (worked-rows words clocks xs (u .worked) (u .clocks-legal))
       (u .clock-legal) (rw n at i) (ap (λ (ys : List Node). evaluate ws ys (k .expr)) q ∙ v) (b₁ .1) bn bz (b₄ .1)
-      ∙ ap₂ {C = Read Opened} (λ (a : ℕ) (ys : List Node). refused number (a + blame ws ys (k .expr))) place q
+      ∙ ap₂ {C = Read SheetRead} (λ (a : ℕ) (ys : List Node). refused number (a + blame ws ys (k .expr))) place q
 
 -- ---- a sheet cut short
 pub cut-short : (s : List ℕ) (v : Sheet) (xs : List Node) (x : ℕ) (rest : List ℕ) → Legal v → Worked (v .words) (v .clocks) xs → s ++ (x ∷ rest) ≡ spellSheet v

@@ -22,7 +22,7 @@ use Rattle.expression.specs.Evaluate.{wordNodes}
 use Rattle.expression.specs.Reader.{exprAt}
 use Rattle.sheet.specs.Sheet.{Link, wordsMost, clocksMost, linksMost, bytesMost}
 use Rattle.sheet.specs.Reader.{rowsAt, sectionAt, bitsAt, wordAt, clockAt, linkAt, linksOn, clocksOn, readFrom, readSheet}
-use Rattle.sheet.specs.Opened.{ClockNode, nodeOfClock, Opened}
+use Rattle.sheet.specs.SheetRead.{ClockNode, nodeOfClock, SheetRead}
 use Rattle.sheet.specs.Format.{many, counted, bits, wordRow, clockRow, linkRow, sheet, Refused, Refused.too-long, Refused.faulty, Refused.bytes-after, Passed}
 
 pub short-enough : (s : List ℕ) → length s ≤ bytesMost → readSheet s ≡ readFrom 0 s
@@ -30,7 +30,7 @@ unfolding readSheet
 short-enough s h = rw (le-leb (length s) bytesMost h)
 
 -- what follows the links: nothing
-abbrev pub ended : List ℕ → Opened → ℕ → Read Opened
+abbrev pub ended : List ℕ → SheetRead → ℕ → Read SheetRead
 ended s o c = cond (eqb c (length s)) (got o c) (refused trailing c)
 
 module _ (s : List ℕ) where
@@ -89,17 +89,17 @@ module _ (s : List ℕ) where
   unfolding readSheet
   refused-listed number place h = go (leb (length s) bytesMost) refl h
     where
-      same : (n p : ℕ) → _≡_ {A = Read Opened} (refused n p) (refused number place) → Refused s n p → Refused s number place
+      same : (n p : ℕ) → _≡_ {A = Read SheetRead} (refused n p) (refused number place) → Refused s n p → Refused s number place
       same n p e h =
           let f : n ≡ number = cc in
           let g : p ≡ place = cc in
           rw (← f, ← g) h
 
-      after : (o : Opened) (c : ℕ) → length s ≤ bytesMost → Piece s sheet 0 o c → (t : Bool) → eqb c (length s) ≡ t → cond t (got o c) (refused trailing c) ≡ refused number place → Refused s number place
+      after : (o : SheetRead) (c : ℕ) → length s ≤ bytesMost → Piece s sheet 0 o c → (t : Bool) → eqb c (length s) ≡ t → cond t (got o c) (refused trailing c) ≡ refused number place → Refused s number place
       after o c l k true e f = refused-got (sym f)
       after o c l k false e f = same trailing c f (bytes-after o l k (omega (arith, eqb-false c (length s) e, piece-within s sheet 0 o c (omega arith) k)))
 
-      by : (r : Read Opened) → run sheet s 0 ≡ r → length s ≤ bytesMost → bind r (ended s) ≡ refused number place → Refused s number place
+      by : (r : Read SheetRead) → run sheet s 0 ≡ r → length s ≤ bytesMost → bind r (ended s) ≡ refused number place → Refused s number place
       by (got o c) e l f = after o c l (read-piece s sheet 0 o c e) (eqb c (length s)) refl f
       by (refused n p) e l f = faulty l (read-fault s sheet 0 number place (e ∙ cc))
 
@@ -115,11 +115,11 @@ module _ (s : List ℕ) where
 
   pub one-refusal : {number number′ place place′ : ℕ} → Refused s number place → Refused s number′ place′ → (number ≡ number′) × (place ≡ place′)
   one-refusal {number} {number′} {place} {place′} h k =
-      let e : _≡_ {A = Read Opened} (refused number place) (refused number′ place′) = sym (listed-refused h) ∙ listed-refused k in
+      let e : _≡_ {A = Read SheetRead} (refused number place) (refused number′ place′) = sym (listed-refused h) ∙ listed-refused k in
       (cc, cc)
 
   -- ---- and what it accepts is such a piece, to the end
-  accepted-right : (o : Opened) (c : ℕ) → readSheet s ≡ got o c → (length s ≤ bytesMost) × Piece s sheet 0 o c × (c ≡ length s)
+  accepted-right : (o : SheetRead) (c : ℕ) → readSheet s ≡ got o c → (length s ≤ bytesMost) × Piece s sheet 0 o c × (c ≡ length s)
   unfolding readSheet
   accepted-right o c h =
       let t = cond-left (leb (length s) bytesMost) (readFrom 0 s) beyond bytesMost o c h in
@@ -128,31 +128,31 @@ module _ (s : List ℕ) where
       let e : r .1 ≡ c = cc in
       (leb-true (length s) bytesMost (t .0), read-piece s sheet 0 o c (r .2 ∙ p .1), sym e ∙ eqb-true (r .1) (length s) (p .0))
 
-  right-accepted : (o : Opened) (c : ℕ) → length s ≤ bytesMost → Piece s sheet 0 o c → c ≡ length s → readSheet s ≡ got o c
+  right-accepted : (o : SheetRead) (c : ℕ) → length s ≤ bytesMost → Piece s sheet 0 o c → c ≡ length s → readSheet s ≡ got o c
   right-accepted o c l h e = short-enough s l ∙ sheet-run 0 ∙ rw (piece-read s sheet 0 o c h, eq-eqb c (length s) e)
 
-  pub accepted-passed : (o : Opened) (c : ℕ) → readSheet s ≡ got o c → Passed s o × (c ≡ length s)
+  pub accepted-passed : (o : SheetRead) (c : ℕ) → readSheet s ≡ got o c → Passed s o × (c ≡ length s)
   accepted-passed o c h =
       let r = accepted-right o c h in
       (record { short-enough = r .0; right = subst (Piece s sheet 0 o) (r .2) (r .1) }, r .2)
 
-  pub passed-accepted : (o : Opened) (c : ℕ) → Passed s o → c ≡ length s → readSheet s ≡ got o c
+  pub passed-accepted : (o : SheetRead) (c : ℕ) → Passed s o → c ≡ length s → readSheet s ≡ got o c
   passed-accepted o c h e = right-accepted o c (h .short-enough) (rw e (h .right)) e
 
   -- a text is one sheet, or refused, and not both
-  pub one-passed : (o x : Opened) → Passed s o → Passed s x → o ≡ x
+  pub one-passed : (o x : SheetRead) → Passed s o → Passed s x → o ≡ x
   one-passed o x p q =
-      let e : _≡_ {A = Read Opened} (got o (length s)) (got x (length s)) = sym (passed-accepted o (length s) p refl) ∙ passed-accepted x (length s) q refl in
+      let e : _≡_ {A = Read SheetRead} (got o (length s)) (got x (length s)) = sym (passed-accepted o (length s) p refl) ∙ passed-accepted x (length s) q refl in
       cc
 
-  pub passed-or-refused : ((o : Opened) × Passed s o) ⊎ ((number : ℕ) × (place : ℕ) × Refused s number place)
+  pub passed-or-refused : ((o : SheetRead) × Passed s o) ⊎ ((number : ℕ) × (place : ℕ) × Refused s number place)
   passed-or-refused = go (readSheet s) refl
     where
-      go : (r : Read Opened) → readSheet s ≡ r → ((o : Opened) × Passed s o) ⊎ ((number : ℕ) × (place : ℕ) × Refused s number place)
+      go : (r : Read SheetRead) → readSheet s ≡ r → ((o : SheetRead) × Passed s o) ⊎ ((number : ℕ) × (place : ℕ) × Refused s number place)
       go (got o c) h = inl (o, accepted-passed o c h .0)
       go (refused number place) h = inr (number, place, refused-listed number place h)
 
-  pub never-both : {number place : ℕ} (o : Opened) → Passed s o → Refused s number place → ⊥
+  pub never-both : {number place : ℕ} (o : SheetRead) → Passed s o → Refused s number place → ⊥
   never-both o p h = refused-got (sym (listed-refused h) ∙ passed-accepted o (length s) p refl)
 
 -- ---- the first fault from the left, within the text
@@ -168,7 +168,7 @@ refused-stays s more m (faulty {number = number} {place = place} l h) n = faulty
 refused-stays s more m (bytes-after o {place = place} l h k) n = bytes-after o m (piece-stays s more sheet 0 o place h) (omega (arith, length-append s more))
 
 -- a text that is accepted, cut short: 1, at the field that is cut
-pub cut-listed : (s : List ℕ) (x : ℕ) (rest : List ℕ) (o : Opened) (c : ℕ) → readSheet (s ++ (x ∷ rest)) ≡ got o c
+pub cut-listed : (s : List ℕ) (x : ℕ) (rest : List ℕ) (o : SheetRead) (c : ℕ) → readSheet (s ++ (x ∷ rest)) ≡ got o c
     → (place : ℕ) × Fault s sheet 0 missing place × (readSheet s ≡ refused missing place)
 cut-listed s x rest o c h =
     let k = accepted-right (s ++ (x ∷ rest)) o c h in

@@ -17,7 +17,7 @@ use Rattle.expression.specs.Evaluate.{wordNodes}
 use Rattle.expression.proofs.Format.{Listed, expression-gives}
 use Rattle.sheet.specs.Sheet.{wordsMost, clocksMost, linksMost}
 use Rattle.sheet.specs.Reader.{readSheet}
-use Rattle.sheet.specs.Opened.{ClockNode, nodeOfClock}
+use Rattle.sheet.specs.SheetRead.{ClockNode, nodeOfClock}
 use Rattle.sheet.specs.Format.{many, counted, bits, wordRow, clockRow, linkRow, sheet, Refused, Refused.too-long, Refused.faulty, Refused.bytes-after}
 use Rattle.sheet.proofs.Refusing.Format.{refused-listed}
 

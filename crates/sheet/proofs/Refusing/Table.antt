@@ -11,14 +11,14 @@ use Rattle.reply.specs.Numbers.{shortResult}
 use Rattle.field.specs.Read.{Read, Read.got, Read.refused, bind}
 use Rattle.field.proofs.Read.{refused-got, same-refused, through, cond-left}
 use Rattle.sheet.specs.Reader.{readSheet}
-use Rattle.sheet.specs.Opened.{Opened}
+use Rattle.sheet.specs.SheetRead.{SheetRead}
 use Rattle.sheet.specs.Format.{Refused, Passed, WorkRefused}
 use Rattle.sheet.specs.WorkOut.{workedOf}
 use Rattle.sheet.proofs.Refusing.Format.{refused-listed, listed-refused, accepted-passed, passed-accepted}
 
 module _ (s : List ℕ) (clocks links : ℕ) where
   -- what there is room for
-  abbrev roomFor : Opened → ℕ → Read Opened
+  abbrev roomFor : SheetRead → ℕ → Read SheetRead
   roomFor o c =
       cond (leb (4 * length (o .table)) clocks)
       (cond (leb (3 * length (o .sheet .links)) links) (got o c) (refused shortResult 0))
@@ -28,13 +28,13 @@ module _ (s : List ℕ) (clocks links : ℕ) where
   unfolding workedOf
   worked-listed number place h = by (readSheet s) refl h
     where
-      room : (o : Opened) (c : ℕ) → Passed s o → (a b : Bool) → leb (4 * length (o .table)) clocks ≡ a → leb (3 * length (o .sheet .links)) links ≡ b
+      room : (o : SheetRead) (c : ℕ) → Passed s o → (a b : Bool) → leb (4 * length (o .table)) clocks ≡ a → leb (3 * length (o .sheet .links)) links ≡ b
           → cond a (cond b (got o c) (refused shortResult 0)) (refused shortResult 0) ≡ refused number place → WorkRefused s clocks links number place
       room o c w true true p q f = refused-got (sym f)
       room o c w true false p q f = same-refused (WorkRefused s clocks links) f (WorkRefused.too-short o w (inr (leb-false (3 * length (o .sheet .links)) links q)))
       room o c w false b p q f = same-refused (WorkRefused s clocks links) f (WorkRefused.too-short o w (inl (leb-false (4 * length (o .table)) clocks p)))
 
-      by : (r : Read Opened) → readSheet s ≡ r → bind r roomFor ≡ refused number place → WorkRefused s clocks links number place
+      by : (r : Read SheetRead) → readSheet s ≡ r → bind r roomFor ≡ refused number place → WorkRefused s clocks links number place
       by (got o c) e f = room o c (accepted-passed s o c e .0) (leb (4 * length (o .table)) clocks) (leb (3 * length (o .sheet .links)) links) refl refl f
       by (refused n q) e f = WorkRefused.in-sheet (refused-listed s number place (e ∙ f))
 
@@ -44,11 +44,11 @@ module _ (s : List ℕ) (clocks links : ℕ) where
   listed-worked (WorkRefused.too-short o w (inl l)) = rw (passed-accepted s o (length s) w refl, lt-leb (4 * length (o .table)) clocks l)
   listed-worked (WorkRefused.too-short o w (inr l)) = rw (passed-accepted s o (length s) w refl, lt-leb (3 * length (o .sheet .links)) links l) (either (leb (4 * length (o .table)) clocks))
     where
-      either : (t : Bool) → _≡_ {A = Read Opened} (cond t (refused shortResult 0) (refused shortResult 0)) (refused shortResult 0)
+      either : (t : Bool) → _≡_ {A = Read SheetRead} (cond t (refused shortResult 0) (refused shortResult 0)) (refused shortResult 0)
       either true = refl
       either false = refl
 
-  pub worked-passed : (o : Opened) (c : ℕ) → workedOf s clocks links ≡ got o c
+  pub worked-passed : (o : SheetRead) (c : ℕ) → workedOf s clocks links ≡ got o c
       → Passed s o × (c ≡ length s) × (4 * length (o .table) ≤ clocks) × (3 * length (o .sheet .links) ≤ links)
   unfolding workedOf
   worked-passed o c h =
@@ -59,7 +59,7 @@ module _ (s : List ℕ) (clocks links : ℕ) where
       let w = accepted-passed s o c (r .2 ∙ q .1) in
       (w .0, w .1, leb-true (4 * length (o .table)) clocks (rw is at (p .0)), leb-true (3 * length (o .sheet .links)) links (rw is at (q .0)))
 
-  pub passed-worked : (o : Opened) (c : ℕ) → Passed s o × (c ≡ length s) × (4 * length (o .table) ≤ clocks) × (3 * length (o .sheet .links) ≤ links)
+  pub passed-worked : (o : SheetRead) (c : ℕ) → Passed s o × (c ≡ length s) × (4 * length (o .table) ≤ clocks) × (3 * length (o .sheet .links) ≤ links)
       → workedOf s clocks links ≡ got o c
   unfolding workedOf
   passed-worked o c h =

@@ -21,7 +21,7 @@ use Rattle.expression.proofs.Reader.{reads, spelled-read}
 use Rattle.expression.proofs.Blame.{fault-read}
 use Rattle.sheet.specs.Sheet.{ClockRow}
 use Rattle.sheet.specs.Reader.{clockAt}
-use Rattle.sheet.specs.Opened.{ClockNode, clockOf, nodeOfClock}
+use Rattle.sheet.specs.SheetRead.{ClockNode, clockOf, nodeOfClock}
 use Rattle.sheet.proofs.Spelling.Rows.{same-got}
 
 -- a clock that is legal, with the node that the rules give it after those of rows

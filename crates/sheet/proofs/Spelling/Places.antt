@@ -18,7 +18,7 @@ use Rattle.expression.specs.Spelled.{indexes}
 use Rattle.expression.proofs.Lookup.{none-some}
 use Rattle.sheet.specs.Sheet.{Sheet, wordsMost, clocksMost, rows, section, spellSheet, Each}
 use Rattle.sheet.specs.Reader.{rowsAt, wordAt, clockAt}
-use Rattle.sheet.specs.Opened.{ClockNode, clockOf, Opened}
+use Rattle.sheet.specs.SheetRead.{ClockNode, clockOf, SheetRead}
 use Rattle.sheet.specs.Format.{many, wordRow, counted, clockRow, upTo, ClockAt}
 use Rattle.sheet.specs.Locating.{clockPlace}
 use Rattle.sheet.proofs.Refusing.Format.{many-run, counted-run, word-run, clock-run}
@@ -86,7 +86,7 @@ rows-begin f (z ∷ zs) (suc i) p =
     let r = rows-begin f zs i (q .2) in
     (r .0, join (q .1) (r .1))
 
-module _ (s : List ℕ) (o : Opened) (c : ℕ) (opens : Opens s o c) where
+module _ (s : List ℕ) (o : SheetRead) (c : ℕ) (opens : Opens s o c) where
   abbrev ws : List Node
   ws = wordNodes (o .sheet .words)
 

@@ -17,7 +17,7 @@ use Rattle.expression.specs.Evaluate.{wordNode, wordNodes, Worked}
 use Rattle.expression.specs.Spelled.{indexes}
 use Rattle.sheet.specs.Sheet.{Sheet, wordsMost, clocksMost, linksMost, bytesMost, spellLink, rows, section, spellSheet, Every, Each, WordRow, ClockRow, LinkRow, Legal}
 use Rattle.sheet.specs.Reader.{sectionAt, wordAt, clockAt, linkAt, linksOn, clocksOn, readFrom, readSheet}
-use Rattle.sheet.specs.Opened.{ClockNode, clockOf, nodeOfClock, Opened}
+use Rattle.sheet.specs.SheetRead.{ClockNode, clockOf, nodeOfClock, SheetRead}
 use Rattle.sheet.proofs.Refusing.Format.{short-enough, ended}
 use Rattle.sheet.proofs.Spelling.Rows.{same-got, each-every, every-each, section-reads, section-read}
 use Rattle.sheet.proofs.Spelling.Words.{word-reads, word-read}
@@ -39,14 +39,14 @@ abbrev pub spellRow : ClockNode → List ℕ
 spellRow r = spellClock (clockOf r)
 
 -- ---- what is read is spelled so
-pub record Opens (s : List ℕ) (o : Opened) (c : ℕ) : Type 0 where
+pub record Opens (s : List ℕ) (o : SheetRead) (c : ℕ) : Type 0 where
   pub legal : Legal (o .sheet)
   pub worked : Worked (o .sheet .words) (o .sheet .clocks) (o .table)
   pub bytes : s ≡ spellSheet (o .sheet)
   pub end : c ≡ length s
 
 module _ (s : List ℕ) (bytes : AllBytes s) where
-  reads-from : (o : Opened) (c : ℕ) → length s ≤ bytesMost → readFrom 0 s ≡ got o c → Opens s o c
+  reads-from : (o : SheetRead) (c : ℕ) → length s ≤ bytesMost → readFrom 0 s ≡ got o c → Opens s o c
   unfolding readFrom clocksOn linksOn spellSheet
   reads-from o c most h =
       let r₁ = through (sectionAt (λ xs a. wordAt s a) wordsMost s 0) _ o c h in
@@ -74,9 +74,9 @@ module _ (s : List ℕ) (bytes : AllBytes s) where
         links-legal = subst (λ (m : ℕ). Each (λ xs l. LinkRow m l) [] (r₃ .0)) e₂ (b₃ .1);
         bytes-most = subst (λ (xs : List ℕ). length xs ≤ bytesMost) e most;
       } in
-      same-got (λ (x : Opened) (d : ℕ). Opens s x d) (p .1) (record { legal = l; worked = rows-worked (r₁ .0) (r₂ .0) (b₂ .1); bytes = e; end = k })
+      same-got (λ (x : SheetRead) (d : ℕ). Opens s x d) (p .1) (record { legal = l; worked = rows-worked (r₁ .0) (r₂ .0) (b₂ .1); bytes = e; end = k })
 
-  pub sheet-reads : (o : Opened) (c : ℕ) → readSheet s ≡ got o c → Opens s o c
+  pub sheet-reads : (o : SheetRead) (c : ℕ) → readSheet s ≡ got o c → Opens s o c
   unfolding readSheet
   sheet-reads o c h =
       let t = cond-left (leb (length s) bytesMost) _ beyond bytesMost o c h in
@@ -84,7 +84,7 @@ module _ (s : List ℕ) (bytes : AllBytes s) where
 
 -- ---- and what is spelled is read
 -- what follows the clocks: the links, and the end
-abbrev pub lastly : List ℕ → List Word → List Clock → List Node → ℕ → Read Opened
+abbrev pub lastly : List ℕ → List Word → List Clock → List Node → ℕ → Read SheetRead
 lastly s words clocks xs b =
     bind (sectionAt (linkAt s (length clocks)) linksMost s b) λ ls c.
     ended s (record { sheet = record { words = words; clocks = clocks; links = ls }; table = xs }) c
@@ -116,7 +116,7 @@ module _ (s : List ℕ) (words : List Word) (most : length words ≤ wordsMost) 
       let n : length zs ≡ length clocks = sym (length-map zs clockOf) ∙ ap length p in
       let c : Bytes s a (section spellRow zs) b = subst (λ (ys : List ℕ). Bytes s a ys b) (ap (section spellClock) (sym p) ∙ section-map spellClock clockOf zs) bc in
       rows-to-links zs d a b (omega arith) (worked-rows words clocks xs w lc) bw c
-      ∙ ap₂ {C = Read Opened} (λ (cs : List Clock) (ys : List Node). lastly s words cs ys b) p q
+      ∙ ap₂ {C = Read SheetRead} (λ (cs : List Clock) (ys : List Node). lastly s words cs ys b) p q
 
 -- a text that is right up to the end of its links
 pub to-end : (s : List ℕ) (v : Sheet) (xs : List Node) (d c : ℕ) → Legal v → Worked (v .words) (v .clocks) xs → Bytes s d (spellSheet v) c
@@ -140,7 +140,7 @@ sheet-read v xs l w =
 pub one-sheet : (v u : Sheet) (xs ys : List Node) → Legal v → Legal u → Worked (v .words) (v .clocks) xs → Worked (u .words) (u .clocks) ys → spellSheet v ≡ spellSheet u
     → (v ≡ u) × (xs ≡ ys)
 one-sheet v u xs ys l m p q e =
-    let z : _≡_ {A = Read Opened} (got (record { sheet = v; table = xs }) (length (spellSheet v))) (got (record { sheet = u; table = ys }) (length (spellSheet u))) =
+    let z : _≡_ {A = Read SheetRead} (got (record { sheet = v; table = xs }) (length (spellSheet v))) (got (record { sheet = u; table = ys }) (length (spellSheet u))) =
     sym (sheet-read v xs l p) ∙ ap readSheet e ∙ sheet-read u ys m q in
-    let o : _≡_ {A = Opened} (record { sheet = v; table = xs }) (record { sheet = u; table = ys }) = cc in
-    (ap (λ (x : Opened). x .sheet) o, ap (λ (x : Opened). x .table) o)
+    let o : _≡_ {A = SheetRead} (record { sheet = v; table = xs }) (record { sheet = u; table = ys }) = cc in
+    (ap (λ (x : SheetRead). x .sheet) o, ap (λ (x : SheetRead). x .table) o)

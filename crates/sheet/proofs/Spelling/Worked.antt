@@ -10,7 +10,7 @@ use Rattle.expression.specs.Expression.{Word, Clock}
 use Rattle.expression.specs.Evaluate.{Worth.whole, evaluate, wordNodes, Worked}
 use Rattle.expression.proofs.Lookup.{none-some, lookup-map}
 use Rattle.sheet.specs.Sheet.{Every, Each, ClockRow}
-use Rattle.sheet.specs.Opened.{ClockNode, clockOf, nodeOfClock}
+use Rattle.sheet.specs.SheetRead.{ClockNode, clockOf, nodeOfClock}
 use Rattle.sheet.proofs.Spelling.Rows.{every-at, each-at, at-each}
 use Rattle.sheet.proofs.Spelling.Clocks.{ClockMade}
 

@@ -23,7 +23,7 @@ use Rattle.expression.specs.Inner.Nodes.{nodesIn, Holds}
 use Rattle.expression.proofs.Answers.{answer, answer-taken}
 use Rattle.sheet.specs.Sheet.{clocksMost}
 use Rattle.sheet.specs.Reader.{rowsAt, sectionAt, clockAt}
-use Rattle.sheet.specs.Opened.{ClockNode, nodeOfClock}
+use Rattle.sheet.specs.SheetRead.{ClockNode, nodeOfClock}
 use Rattle.sheet.specs.Inner.Sections.{Mark, markedAt, stateOfRow, ClockRows}
 use Rattle.sheet.proofs.Tables.Readings.{section-none, section-rows, mapped-got, mapped-refused, reached-none, reached-more, reached-refused, reached-all}
 use Rattle.sheet.proofs.Tables.NodeTables.{map-more, Stored, stored-none, stored-more, stored-nodes, Left}

@@ -25,7 +25,7 @@ use Rattle.envelope.proofs.Held.{K-up, k-down}
 use Rattle.link.specs.declared.Verdict.{Verdict}
 use Rattle.link.specs.declared.Verdict.the-variants.{Accepted, Rates, Early}
 use Rattle.link.specs.declared.Row.{Row}
-use Rattle.link.specs.Link.{sizeOf, verdictOf, numberOf, sizeIn, stateOf, openSizeOf, Passes}
+use Rattle.link.specs.Link.{sizeOf, verdictOf, verdictNumber, sizeIn, stateOf, openSizeOf, Passes}
 use Rattle.link.proofs.Links.{size-least, accepted-is}
 use Rattle.expression.specs.Inner.Nodes.{nodesIn, nodeAt, AllTaken, Holds}
 use Rattle.expression.proofs.Tables.{node-at}
@@ -96,7 +96,7 @@ open-most r = go (eqb (r .state) 1)
     go true = omega arith
     go false = omega arith
 
-pub number-small : (v : Verdict) → numberOf v ≤ 2
+pub number-small : (v : Verdict) → verdictNumber v ≤ 2
 number-small (Accepted n) = omega arith
 number-small Rates = omega arith
 number-small Early = omega arith

@@ -23,7 +23,7 @@ use Rattle.sheet.specs.declared.Rooms.{Rooms}
 use Rattle.sheet.specs.declared.Reply.{Reply}
 use Rattle.sheet.specs.Sheet.{Link, clocksMost, linksMost}
 use Rattle.sheet.specs.Reader.{readSheet}
-use Rattle.sheet.specs.Opened.{Opened}
+use Rattle.sheet.specs.SheetRead.{SheetRead}
 use Rattle.sheet.specs.Rooms.{markOf, rowOf, rowsOf, openRoom, wholeRoom, verdictIn}
 use Rattle.sheet.specs.WorkOut.{roomFor, workedOf, refusalOf, replyOf, clockNumbers, linkNumbers, flatten, clocksOut, linksOut, WorksOut}
 use Rattle.sheet.specs.Inner.Sections.{flatLinks, linksOf, foundOf, readingOf, stateOfClock, Tabled, rowAt, rowsIn, roomsOver, Ready, Given}
@@ -32,23 +32,23 @@ use Rattle.sheet.proofs.Tables.LinkTable.{flat-length, links-flat, ends
 use Rattle.sheet.proofs.Tables.NodeTables.{lent-holds, lent-nodes}
 
 -- ---- the reading, by what the code's reader answered
-pub reading-refused : (X : Read Opened) (number place : ℕ) → Reading.Refused number place ≡ readingOf X → X ≡ refused number place
+pub reading-refused : (X : Read SheetRead) (number place : ℕ) → Reading.Refused number place ≡ readingOf X → X ≡ refused number place
 reading-refused (got o c) number place e =
     let z : _≡_ {A = ℕ} 0 1 = cc in
     absurd (omega arith)
 reading-refused (refused k q) number place e =
     let z : k ≡ number = cc in
     let w : q ≡ place = cc in
-    ap₂ {A = ℕ} {B = ℕ} {C = Read Opened} (λ (x y : ℕ). refused x y) z w
+    ap₂ {A = ℕ} {B = ℕ} {C = Read SheetRead} (λ (x y : ℕ). refused x y) z w
 
-pub reading-whole : (X : Read Opened) (f : Found) → Reading.Whole f ≡ readingOf X → (o : Opened) × (c : ℕ) × (X ≡ got o c) × (foundOf o ≡ f)
+pub reading-whole : (X : Read SheetRead) (f : Found) → Reading.Got f ≡ readingOf X → (o : SheetRead) × (c : ℕ) × (X ≡ got o c) × (foundOf o ≡ f)
 reading-whole (got o c) f e = (o, c, refl, cc)
 reading-whole (refused number place) f e =
     let z : _≡_ {A = ℕ} 0 1 = cc in
     absurd (omega arith)
 
 -- how many clocks and links were found
-module _ (o : Opened) (f : Found) (f-is : foundOf o ≡ f) where
+module _ (o : SheetRead) (f : Found) (f-is : foundOf o ≡ f) where
   clocks-are : length (o .table) ≡ f .clocks
   clocks-are = ap (λ (x : Found). x .clocks) f-is
 
@@ -65,7 +65,7 @@ unfolding workedOf
 not-read s A B number place e = rw e
 
 -- ---- a sheet that was read
-module _ (s : List ℕ) (bytes : AllBytes s) (o : Opened) (c : ℕ) (read : readSheet s ≡ got o c) where
+module _ (s : List ℕ) (bytes : AllBytes s) (o : SheetRead) (c : ℕ) (read : readSheet s ≡ got o c) where
   opens : Opens s o c
   opens = sheet-reads s bytes o c read
 
@@ -81,7 +81,7 @@ state-at [] i = refl
 state-at (c ∷ cs) zero = refl
 state-at (c ∷ cs) (suc i) = state-at cs i
 
-pub rows-are : (o : Opened) (ls : List Link) → rowsIn (o .table) (map stateOfClock (o .sheet .clocks)) ls ≡ map (rowOf o) ls
+pub rows-are : (o : SheetRead) (ls : List Link) → rowsIn (o .table) (map stateOfClock (o .sheet .clocks)) ls ≡ map (rowOf o) ls
 rows-are o [] = refl
 rows-are o (l ∷ ls) = ap₂ {C = List Row} (λ r rs. r ∷ rs) one (rows-are o ls)
   where
@@ -93,7 +93,7 @@ rows-are o (l ∷ ls) = ap₂ {C = List Row} (λ r rs. r ∷ rs) one (rows-are o
     one = λ i. record { producer = l .producer; consumer = l .consumer; state = state i; verdict = verdictIn (o .table) l }
 
 -- ---- a sheet that was read, by what was found: how many clocks and links
-module _ (s : List ℕ) (bytes : AllBytes s) (o : Opened) (c : ℕ) (read : readSheet s ≡ got o c) (f : Found) (f-is : foundOf o ≡ f) where
+module _ (s : List ℕ) (bytes : AllBytes s) (o : SheetRead) (c : ℕ) (read : readSheet s ≡ got o c) (f : Found) (f-is : foundOf o ≡ f) where
   pub clocks-few : f .clocks ≤ clocksMost
   clocks-few = omega (arith, few-clocks s bytes o c read, clocks-are o f f-is)
 
@@ -103,7 +103,7 @@ module _ (s : List ℕ) (bytes : AllBytes s) (o : Opened) (c : ℕ) (read : read
   -- with its tables
   module _ (t : List ℤ) (ss es : List ℕ) (tabled : Tabled (readSheet s) t ss es) where
     tables : Tabled (got o c) t ss es
-    tables = subst (λ (r : Read Opened). Tabled r t ss es) read tabled
+    tables = subst (λ (r : Read SheetRead). Tabled r t ss es) read tabled
 
     nodes : take (4 * f .clocks) t ≡ flats (o .table)
     nodes = rw (← clocks-are o f f-is) (tables .0)
@@ -150,8 +150,8 @@ module _ (s : List ℕ) (bytes : AllBytes s) (o : Opened) (c : ℕ) (read : read
 -- ---- what is given: by the room that was lent
 module _ (t : List ℤ) (ss es : List ℕ) (n : ℕ) (ready : Ready t ss es n) (x l : List ℤ) where
   given-by : (r : Reply) (x′ l′ : List ℤ)
-      → ((o : Opened) → nodesIn t ≡ o .table → ss ≡ map stateOfClock (o .sheet .clocks) → linksOf es ≡ o .sheet .links → length ss ≡ length (o .table) → n ≡ length (o .sheet .links)
-      → (c : ℕ) → (X : Read Opened) × (roomFor (length x) (length l) o c ≡ X) × (r ≡ replyOf X) × (x′ ≡ clocksOut X x) × (l′ ≡ linksOut X l))
+      → ((o : SheetRead) → nodesIn t ≡ o .table → ss ≡ map stateOfClock (o .sheet .clocks) → linksOf es ≡ o .sheet .links → length ss ≡ length (o .table) → n ≡ length (o .sheet .links)
+      → (c : ℕ) → (X : Read SheetRead) × (roomFor (length x) (length l) o c ≡ X) × (r ≡ replyOf X) × (x′ ≡ clocksOut X x) × (l′ ≡ linksOut X l))
       → Given t ss es x l r x′ l′
   given-by r x′ l′ go o c nodes states links =
       let many : length ss ≡ length (o .table) = omega (arith, nodes-many t, ready .many, ap length nodes) in

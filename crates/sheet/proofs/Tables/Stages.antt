@@ -23,8 +23,8 @@ use Rattle.expression.specs.Table.{flats}
 use Rattle.expression.specs.Inner.Nodes.{nodesIn, AllTaken, Holds}
 use Rattle.sheet.specs.declared.Reading.{Reading}
 use Rattle.sheet.specs.Sheet.{Link, wordsMost, clocksMost, linksMost, bytesMost, section, WordRow}
-use Rattle.sheet.specs.Reader.{sectionAt, wordAt, clockAt, linkAt, openedOf, linksOn, clocksOn, readFrom, readSheet}
-use Rattle.sheet.specs.Opened.{ClockNode, clockOf, nodeOfClock, Opened}
+use Rattle.sheet.specs.Reader.{sectionAt, wordAt, clockAt, linkAt, asRead, linksOn, clocksOn, readFrom, readSheet}
+use Rattle.sheet.specs.SheetRead.{ClockNode, clockOf, nodeOfClock, SheetRead}
 use Rattle.sheet.specs.Inner.Sections.{WordRows, ClockRows, LinkRows, stateOfRow, stateOfClock, readingFrom, readingOf, EndsLeft, Tabled, ToEnd, FromClocks}
 use Rattle.sheet.proofs.Refusing.Format.{short-enough}
 use Rattle.sheet.proofs.Spelling.Rows.{section-reads}
@@ -37,18 +37,18 @@ use Rattle.sheet.proofs.Tables.LinkTable.{rows-counted, rows-ends}
 
 -- ---- what was opened holds the words and the clocks that were read before
 module _ (s : List ℕ) (ws : List Word) where
-  links-opened : (rows : List ClockNode) (a : ℕ) (o : Opened) (d : ℕ) → linksOn s ws rows a ≡ got o d → (ls : List Link) × (openedOf ws rows ls ≡ o)
+  links-opened : (rows : List ClockNode) (a : ℕ) (o : SheetRead) (d : ℕ) → linksOn s ws rows a ≡ got o d → (ls : List Link) × (asRead ws rows ls ≡ o)
   unfolding linksOn
   links-opened rows a o d h =
       let r = through (sectionAt (linkAt s (length rows)) linksMost s a) _ o d h in
-      let p = cond-left (eqb (r .1) (length s)) (got (openedOf ws rows (r .0)) (r .1)) trailing (r .1) o d (r .3) in
+      let p = cond-left (eqb (r .1) (length s)) (got (asRead ws rows (r .0)) (r .1)) trailing (r .1) o d (r .3) in
       (r .0, cc (p .1))
 
-  clocks-opened : (a : ℕ) (o : Opened) (d : ℕ) → clocksOn s ws a ≡ got o d → o .sheet .words ≡ ws
+  clocks-opened : (a : ℕ) (o : SheetRead) (d : ℕ) → clocksOn s ws a ≡ got o d → o .sheet .words ≡ ws
   unfolding clocksOn
   clocks-opened a o d h =
       let r = through (sectionAt (clockAt s (wordNodes ws)) clocksMost s a) _ o d h in
-      ap (λ (x : Opened). x .sheet .words) (sym (links-opened (r .0) (r .1) o d (r .3) .1))
+      ap (λ (x : SheetRead). x .sheet .words) (sym (links-opened (r .0) (r .1) o d (r .3) .1))
 
 -- ---- from the links on
 module _ (s : List ℕ) (first a m : ℕ) (q : Field) (es : List ℕ) (told : LinkRows (sectionAt (linkAt s m) linksMost s a) q es) where
@@ -71,12 +71,12 @@ module _ (s : List ℕ) (first a m : ℕ) (q : Field) (es : List ℕ) (told : Li
     unfolding linksOn
     links-past k ws rows e = rw (links-read rows e, ne-eqb (c .at) (length s) k) (refl, tt)
 
-    pub links-whole : c .at ≡ length s → ToEnd s first a m (Reading.Whole (record { clocks = m; links = n; clockrows = first })) es
+    pub links-whole : c .at ≡ length s → ToEnd s first a m (Reading.Got (record { clocks = m; links = n; clockrows = first })) es
     unfolding linksOn
     links-whole k ws rows e =
         let many : m ≡ length (map nodeOfClock rows) = sym e ∙ sym (length-map rows nodeOfClock) in
-        let found : _≡_ {A = Reading} (Reading.Whole (record { clocks = m; links = n; clockrows = first })) (readingFrom first (got (openedOf ws rows (links .0)) (c .at))) =
-        (λ i. Reading.Whole (record { clocks = many i; links = sym (links .2) i; clockrows = first })) in
+        let found : _≡_ {A = Reading} (Reading.Got (record { clocks = m; links = n; clockrows = first })) (readingFrom first (got (asRead ws rows (links .0)) (c .at))) =
+        (λ i. Reading.Got (record { clocks = many i; links = sym (links .2) i; clockrows = first })) in
         rw (links-read rows e, eq-eqb (c .at) (length s) k) (found, rows-ends (sectionAt (linkAt s m) linksMost s a) q es (links .0) (c .at) (links .1) told)
 
 -- ---- from the clocks on
@@ -103,10 +103,10 @@ module _ (s : List ℕ) (a : ℕ) (xs : List Node) (h : Field) (t : List ℤ) (s
     count-within = sectioned (clockAt s xs) clocksMost s a (clocks .rows) (c .at) (clocks .is) .there
 
     -- the tables hold the clocks of whatever was opened over them
-    abbrev Holding : Opened → Type 0
+    abbrev Holding : SheetRead → Type 0
     Holding o = (take (4 * length (o .table)) t ≡ flats (o .table)) × (take (length (o .table)) ss ≡ map stateOfClock (o .sheet .clocks)) × AllTaken (o .table)
 
-    holding : (ws : List Word) (ls : List Link) → Holding (openedOf ws (clocks .rows) ls)
+    holding : (ws : List Word) (ls : List Link) → Holding (asRead ws (clocks .rows) ls)
     holding ws ls =
         let n : length (map nodeOfClock (clocks .rows)) ≡ m = length-map (clocks .rows) nodeOfClock ∙ clocks .many in (
           ap (λ (x : ℕ). take (4 * x) t) n ∙ clocks .table,
@@ -121,7 +121,7 @@ module _ (s : List ℕ) (a : ℕ) (xs : List Node) (h : Field) (t : List ℤ) (s
         let d = on ws (clocks .rows) (clocks .many) in
         rw x (d .0, tabled (linksOn s ws (clocks .rows) (c .at)) refl (d .1))
       where
-        tabled : (X : Read Opened) → linksOn s ws (clocks .rows) (c .at) ≡ X → EndsLeft X es → Tabled X t ss es
+        tabled : (X : Read SheetRead) → linksOn s ws (clocks .rows) (c .at) ≡ X → EndsLeft X es → Tabled X t ss es
         tabled (got o d) e k =
             let w = links-opened s ws (clocks .rows) (c .at) o d e in
             let y = subst Holding (w .1) (holding ws (w .0)) in
@@ -165,9 +165,9 @@ module _ (s : List ℕ) (short : length s ≤ bytesMost) (f : Field) (list : Lis
         let d = on (words .rows) (lent-nodes list w (wordNodes (words .rows)) (words .table) (words .taken)) in
         rw (short-enough s short, words .is) (d .0 ∙ placed (clocksOn s (words .rows) (c .at)) refl, d .1)
       where
-        placed : (X : Read Opened) → clocksOn s (words .rows) (c .at) ≡ X → readingFrom (c .at + 2) X ≡ readingOf X
+        placed : (X : Read SheetRead) → clocksOn s (words .rows) (c .at) ≡ X → readingFrom (c .at + 2) X ≡ readingOf X
         placed (got o d) e =
             let p : c .at + 2 ≡ length (section spellWord (o .sheet .words)) + 2 =
             ap (λ (x : ℕ). x + 2) (words-end bytes ∙ ap (λ (ws : List Word). length (section spellWord ws)) (sym (clocks-opened s (words .rows) (c .at) o d e))) in
-            λ i. Reading.Whole (record { clocks = length (o .table); links = length (o .sheet .links); clockrows = p i })
+            λ i. Reading.Got (record { clocks = length (o .table); links = length (o .sheet .links); clockrows = p i })
         placed (refused number place) e = refl

@@ -15,7 +15,7 @@ use mir.Val.{Fits}
 use Rattle.whole.proofs.Bridge.{sfits-small}
 use Rattle.whole.proofs.Machine.{held}
 use Rattle.link.specs.declared.Row.{Row}
-use Rattle.link.specs.Link.{numberOf, sizeIn}
+use Rattle.link.specs.Link.{verdictNumber, sizeIn}
 use Rattle.sheet.specs.WorkOut.{linkNumbers}
 use Rattle.sheet.proofs.Tables.LinkRows.{number-small}
 use Rattle.sheet.proofs.store_row.Statement.{statement}
@@ -30,7 +30,7 @@ state-fits c = search needs
 -- three numbers, one after another
 stored :
     (t : List ℤ) (a : ℕ) (x y z : ℤ) (r : Row) →
-    x ≡ pos (numberOf (r .verdict)) →
+    x ≡ pos (verdictNumber (r .verdict)) →
     y ≡ pos (sizeIn (r .verdict)) →
     z ≡ pos (r .state) →
     set (set (set t a x) (a + 1) y) (a + 2) z ≡ sets t a (linkNumbers r)

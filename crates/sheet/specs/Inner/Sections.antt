@@ -28,7 +28,7 @@ use Rattle.sheet.specs.declared.Rooms.{Rooms}
 use Rattle.sheet.specs.declared.Reply.{Reply}
 use Rattle.sheet.specs.Sheet.{Link, section, wordsMost, clocksMost, linksMost}
 use Rattle.sheet.specs.Reader.{sectionAt, bitsAt, wordAt, linksOn, clocksOn}
-use Rattle.sheet.specs.Opened.{ClockNode, nodeOfClock, Opened}
+use Rattle.sheet.specs.SheetRead.{ClockNode, nodeOfClock, SheetRead}
 use Rattle.sheet.specs.Rooms.{verdictIn, total, sizeOfRow}
 use Rattle.sheet.specs.WorkOut.{roomFor, replyOf, clocksOut, linksOut}
 
@@ -101,31 +101,31 @@ LinkRows (refused number place) r es = fieldOf r ≡ refused number place
 -- ---- a whole sheet
 
 -- what was found of a sheet whose clocks' rows begin at `first`
-abbrev pub foundFrom : ℕ → Opened → Found
+abbrev pub foundFrom : ℕ → SheetRead → Found
 foundFrom first o = record { clocks = length (o .table); links = length (o .sheet .links); clockrows = first }
 
-abbrev pub readingFrom : ℕ → Read Opened → Reading
-readingFrom first (got o c) = Reading.Whole (foundFrom first o)
+abbrev pub readingFrom : ℕ → Read SheetRead → Reading
+readingFrom first (got o c) = Reading.Got (foundFrom first o)
 readingFrom first (refused number place) = Reading.Refused number place
 
 -- they begin behind the words and the count of the clocks
-abbrev pub foundOf : Opened → Found
+abbrev pub foundOf : SheetRead → Found
 foundOf o = foundFrom (length (section spellWord (o .sheet .words)) + 2) o
 
-abbrev pub readingOf : Read Opened → Reading
-readingOf (got o c) = Reading.Whole (foundOf o)
+abbrev pub readingOf : Read SheetRead → Reading
+readingOf (got o c) = Reading.Got (foundOf o)
 readingOf (refused number place) = Reading.Refused number place
 
 abbrev pub stateOfClock : Clock → ℕ
 stateOfClock c = c .state
 
 -- the links' ends in their table
-abbrev pub EndsLeft : Read Opened → List ℕ → Type 0
+abbrev pub EndsLeft : Read SheetRead → List ℕ → Type 0
 EndsLeft (got o c) es = take (2 * length (o .sheet .links)) es ≡ flatLinks (o .sheet .links)
 EndsLeft (refused number place) es = Unit
 
 -- the clocks' nodes, their states and the links' ends, each in its table
-abbrev pub Tabled : Read Opened → List ℤ → List ℕ → List ℕ → Type 0
+abbrev pub Tabled : Read SheetRead → List ℤ → List ℕ → List ℕ → Type 0
 Tabled (got o c) t ss es =
     (take (4 * length (o .table)) t ≡ flats (o .table))
     × (take (length (o .table)) ss ≡ map stateOfClock (o .sheet .clocks))
@@ -180,7 +180,7 @@ pub record Ready (t : List ℤ) (ss es : List ℕ) (n : ℕ) : Type 0 where
 -- what is given of a sheet whose clocks' nodes, states and links' ends stand in the tables
 abbrev pub Given : List ℤ → List ℕ → List ℕ → List ℤ → List ℤ → Reply → List ℤ → List ℤ → Type 0
 Given t ss es clocks links r clocks-end links-end =
-    (o : Opened) (c : ℕ)
+    (o : SheetRead) (c : ℕ)
     → nodesIn t ≡ o .table
     → ss ≡ map stateOfClock (o .sheet .clocks)
     → linksOf es ≡ o .sheet .links

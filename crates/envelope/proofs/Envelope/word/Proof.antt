@@ -56,8 +56,8 @@ div-l c = some c
 div-n : tie.Need-div-n
 div-n c = some c
 
-spread-requires : tie.Need-spread-requires
-spread-requires c κs =
+offset-span-requires : tie.Need-offset-span-requires
+offset-span-requires c κs =
     let h = c .before .before .pre in
     (small _ _ (h .0 .2), small _ _ (h .1 .1), h .0 .1)
 
@@ -68,8 +68,8 @@ returns : tie.Need-returns
 returns c =
     let d = c .before .before .before in
     let s = d .before .before .before in
-    made (now (s .args .bits)) (s .args .prefix) _ _ _ _ (d .spread .result) _ _ _
-    (s .pre .1 .2) (d .before .gcd .ensures) refl refl (d .spread .ensures)
+    made (now (s .args .bits)) (s .args .prefix) _ _ _ _ (d .offset-span .result) _ _ _
+    (s .pre .1 .2) (d .before .gcd .ensures) refl refl (d .offset-span .ensures)
     (told _ (let g = c .before .before .struct-told .given in omega arith))
     (told _ (let g = c .before .struct-told2 .given in omega arith))
     (c .result .ensures)
@@ -77,4 +77,4 @@ returns c =
 pub word-spec : {M : Type 1} → statement M
 word-spec =
     tie.close
-    (tie.spec sub-period gcd-requires div-l div-n spread-requires result-requires returns)
+    (tie.spec sub-period gcd-requires div-l div-n offset-span-requires result-requires returns)

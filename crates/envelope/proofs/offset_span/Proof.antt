@@ -1,4 +1,4 @@
--- `spread` meets its contract: s is the span of the bits passed, j how many of them are 1.
+-- `offset_span` meets its contract: s is the span of the bits passed, j how many of them are 1.
 -- Assumes nothing.
 use borrow.Author.Needs.{needs}
 use mathlib.Core.Path.{_≡_, sym, ap, _∙_}
@@ -16,11 +16,11 @@ use Rattle.whole.proofs.Machine.{told}
 use Rattle.envelope.specs.declared.Span.{Span}
 use Rattle.envelope.specs.Stream.{ones}
 use Rattle.envelope.specs.Word.{bitAt}
-use Rattle.envelope.specs.Inner.Span.{withOf, spanOf}
+use Rattle.envelope.specs.Inner.Span.{includingOf, spanOf}
 use Rattle.envelope.proofs.Counts.{ones-none, ones-one, ones-zero}
 use Rattle.envelope.proofs.Spans.{span-none, span-one, span-zero}
-use Rattle.envelope.proofs.spread.Statement.{statement}
-use Rattle.envelope.proofs.spread.Tie as tie
+use Rattle.envelope.proofs.offset_span.Statement.{statement}
+use Rattle.envelope.proofs.offset_span.Tie as tie
 
 abbrev Inv-loop : tie.InvT-loop
 Inv-loop bits l n s₀ t₀ j₀ s t j = (t ≤ length bits) × (j ≤ t) × (j ≡ ones (bitAt bits) t) × (s ≡ spanOf (bitAt bits) l n t)
@@ -40,8 +40,8 @@ offset-requires c κs =
     let i = c .before .before .before .loop .inv in
     (h .1, omega arith, h .0, omega arith)
 
-with-requires : tie.Need-with-requires Inv-loop μ-loop
-with-requires c κs = search needs
+including-requires : tie.Need-including-requires Inv-loop μ-loop
+including-requires c κs = search needs
 
 add-j : tie.Need-add-j Inv-loop μ-loop
 add-j c = omega arith
@@ -57,7 +57,7 @@ module _ (bits : List ℕ) (l n t j : ℕ) (s : Span) (a : t < length bits) (sma
   abbrev Turned : ℕ → Span → Type 0
   Turned j′ s′ = (t + 1 ≤ length bits) × (j′ ≤ t + 1) × (j′ ≡ ones (bitAt bits) (t + 1)) × (s′ ≡ spanOf (bitAt bits) l n (t + 1))
 
-  turn-one : (j′ : ℕ) (s′ : Span) (x y : ℤ) → getD bits t 0 ≡ 1 → j′ ≡ j + 1 → s′ ≡ withOf s y j → y ≡ x → x ≡ pos (n * t) -ℤ pos (l * j) → Turned j′ s′
+  turn-one : (j′ : ℕ) (s′ : Span) (x y : ℤ) → getD bits t 0 ≡ 1 → j′ ≡ j + 1 → s′ ≡ includingOf s y j → y ≡ x → x ≡ pos (n * t) -ℤ pos (l * j) → Turned j′ s′
   turn-one j′ s′ x y e p q r o =
       let one : bitAt bits t ≡ true = eq-eqb _ _ e in (
         omega arith,
@@ -89,8 +89,8 @@ returns c =
     let e : c .before .loop .t ≡ length (now (c .before .before .before .args .bits)) = omega arith in
     c .before .loop .inv .3 ∙ ap (spanOf (bitAt (now (c .before .before .before .args .bits))) (c .before .before .before .args .l) (c .before .before .before .args .n)) e
 
-pub spread-spec : {M : Type 1} → statement M
-spread-spec =
+pub offset-span-spec : {M : Type 1} → statement M
+offset-span-spec =
     tie.close
     (tie.spec
     Inv-loop
@@ -98,7 +98,7 @@ spread-spec =
     loop-holds
     shared-slice-read-if1
     offset-requires
-    with-requires
+    including-requires
     add-j
     add-t
     loop-less

@@ -16,6 +16,6 @@ abbrev pub nodeOfClock : ClockNode → Node
 nodeOfClock r = r .node
 
 -- a sheet that was read, with its clocks' nodes
-pub record Opened : Type 0 where
+pub record SheetRead : Type 0 where
   pub sheet : Sheet
   pub table : List Node
