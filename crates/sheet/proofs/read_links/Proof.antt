@@ -48,19 +48,21 @@ returns-2 c =
     ∙ reached-refused _ _ _ _ _ (l .loop .inv .3 .on) (c .before .before .before .before .loop-test .taken) _ _ (link-anywhere _ _ _ _ _ (sym (c .before .before .before .link-ends .ensures) ∙ ap endsOf (c .before .number .given .1))))
     refl
 
--- the link that was read
-is : (c : tie.After-known-told3 Inv-loop μ-loop) →
-    linkAt (now (c .before .before .before .before .before .before .before .before .before .before .before .before .args .s)) (c .before .before .before .before .before .before .before .before .before .before .before .before .args .n) [] (c .before .before .before .before .before .loop .c .at)
-    ≡ got (record { producer = c .before .p .given .0 .0; consumer = c .before .p .given .0 .1 .0 }) (c .before .p .given .0 .1 .1 .0 .at)
-is c = sym (c .before .before .before .link-ends .ensures) ∙ ap endsOf (c .before .p .given .1)
+-- a link that was read, and what is known of its ends
+module _ (c : tie.After-known-told3 Inv-loop μ-loop) where
+  abbrev start : tie.Start Inv-loop μ-loop
+  start = c .before .before .before .before .before .before .before .before .before .before .before .before
 
-ends-few : (c : tie.After-known-told3 Inv-loop μ-loop) → (c .before .p .given .0 .0 < 256) × (c .before .p .given .0 .1 .0 < 256)
-ends-few c =
-    let k = ends-there _ _ _ _ _ _ (is c) in
-    (omega (arith, k .0, c .before .before .before .before .before .before .before .before .before .before .before .before .pre .1), omega (arith, k .1, c .before .before .before .before .before .before .before .before .before .before .before .before .pre .1))
+  is : linkAt (now (start .args .s)) (start .args .n) [] (c .before .before .before .before .before .loop .c .at) ≡ got (record { producer = c .before .p .given .0 .0; consumer = c .before .p .given .0 .1 .0 }) (c .before .p .given .0 .1 .1 .0 .at)
+  is = sym (c .before .before .before .link-ends .ensures) ∙ ap endsOf (c .before .p .given .1)
 
-room : (c : tie.After-known-told3 Inv-loop μ-loop) → c .before .before .before .before .before .loop .i < 256
-room c = omega (arith, c .before .before .before .before .before .loop .inv .2, c .before .before .before .before .loop-test .taken)
+  ends-few : (c .before .p .given .0 .0 < 256) × (c .before .p .given .0 .1 .0 < 256)
+  ends-few =
+      let k = ends-there _ _ _ _ _ _ is in
+      (omega (arith, k .0, start .pre .1), omega (arith, k .1, start .pre .1))
+
+  room : c .before .before .before .before .before .loop .i < 256
+  room = omega (arith, c .before .before .before .before .before .loop .inv .2, c .before .before .before .before .loop-test .taken)
 
 loop-again : tie.Need-loop-again Inv-loop μ-loop
 loop-again c =
