@@ -24,7 +24,7 @@ use Rattle.envelope.proofs.Makings.{declared-whole, negated-whole, joined-whole
 use Rattle.envelope.proofs.Taken.{declared-taken, not-taken, on-taken}
 use Rattle.expression.specs.Expression.{Expr}
 use Rattle.expression.specs.Expression.Expr.{word, declared, negated, on, clock}
-use Rattle.expression.specs.Evaluate.{Worth, Worth.whole, Worth.fault, worthOf, onward, listed, fieldsKept, declaredWorth, evaluate}
+use Rattle.expression.specs.Evaluate.{Worth, Worth.whole, Worth.fault, worthOf, onward, joint, listed, fieldsKept, declaredWorth, evaluate}
 use Rattle.expression.specs.Inner.Nodes.{AllTaken}
 use Rattle.expression.specs.Spelled.{InRange}
 use Rattle.expression.proofs.Lookup.{lookup-below}
@@ -36,6 +36,13 @@ fault-whole h = let z : _≡_ {A = ℕ} 0 1 = cc in absurd (omega arith)
 pub onward-whole : (m : Worth) (go : Node → Worth) (x : Node) → onward m go ≡ whole x → (a : Node) × (m ≡ whole a) × (go a ≡ whole x)
 onward-whole (whole a) go x h = (a, refl, h)
 onward-whole (fault number) go x h = fault-whole h
+
+-- two parts, and their rule
+pub joint-whole : (rule : Envelope → Envelope → Made) (m o : Worth) (x : Node) → joint rule m o ≡ whole x
+    → (a b : Node) × (m ≡ whole a) × (o ≡ whole b) × (worthOf (rule (a .envelope) (b .envelope)) ≡ whole x)
+joint-whole rule (whole a) (whole b) x h = (a, b, refl, refl, h)
+joint-whole rule (whole a) (fault number) x h = fault-whole h
+joint-whole rule (fault number) o x h = fault-whole h
 
 pub worth-whole : (m : Made) (x : Node) → worthOf m ≡ whole x → m ≡ Whole x
 worth-whole (Whole a) x h = cc
@@ -96,31 +103,35 @@ joined-result a b x s t h =
     let q = joined-whole (a .envelope) (b .envelope) (worth-whole (joinedOf (a .envelope) (b .envelope)) x h) in
     result _ x (q .0) (on-taken (a .envelope) (b .envelope) s t (q .1))
 
--- ---- an expression
+-- ---- an expression: its fields are in range, and its node is taken
 module _ (ws cs : List Node) where
-  pub evaluate-taken : AllTaken ws → AllTaken cs → (x : Expr) (a : Node) → evaluate ws cs x ≡ whole a → Taken (a .envelope)
-  unfolding evaluate
-  evaluate-taken tw tc (word i) a h = tw i a (listed-whole (getElem? ws i) a h)
-  evaluate-taken tw tc (declared k K l n) a h = declared-result k K l n a h .1 .taken
-  evaluate-taken tw tc (negated x) a h =
-      let r = onward-whole (evaluate ws cs x) _ a h in
-      negated-result (r .0) a (evaluate-taken tw tc x (r .0) (r .1)) (r .2) .1 .taken
-  evaluate-taken tw tc (on x y) a h =
-      let r = onward-whole (evaluate ws cs x) _ a h in
-      let q = onward-whole (evaluate ws cs y) _ a (r .2) in
-      joined-result (r .0) (q .0) a (evaluate-taken tw tc x (r .0) (r .1)) (evaluate-taken tw tc y (q .0) (q .1)) (q .2) .taken
-  evaluate-taken tw tc (clock i) a h = tc i a (listed-whole (getElem? cs i) a h)
+  record Evaluated (x : Expr) (a : Node) : Type 0 where
+    pub range : InRange (length ws) (length cs) x
+    pub taken : AllTaken ws → AllTaken cs → Taken (a .envelope)
 
-  -- its fields are in range
-  pub evaluate-range : (x : Expr) (a : Node) → evaluate ws cs x ≡ whole a → InRange (length ws) (length cs) x
+  evaluated : (x : Expr) (a : Node) → evaluate ws cs x ≡ whole a → Evaluated x a
   unfolding evaluate
-  evaluate-range (word i) a h = lookup-below ws i a (listed-whole (getElem? ws i) a h)
-  evaluate-range (declared k K l n) a h = declared-result k K l n a h .0
-  evaluate-range (negated x) a h =
+  evaluated (word i) a h =
+      let e = listed-whole (getElem? ws i) a h in
+      record { range = lookup-below ws i a e; taken = λ tw tc. tw i a e }
+  evaluated (declared k K l n) a h =
+      let r = declared-result k K l n a h in
+      record { range = r .0; taken = λ tw tc. r .1 .taken }
+  evaluated (negated x) a h =
       let r = onward-whole (evaluate ws cs x) _ a h in
-      evaluate-range x (r .0) (r .1)
-  evaluate-range (on x y) a h =
-      let r = onward-whole (evaluate ws cs x) _ a h in
-      let q = onward-whole (evaluate ws cs y) _ a (r .2) in
-      (evaluate-range x (r .0) (r .1), evaluate-range y (q .0) (q .1))
-  evaluate-range (clock i) a h = lookup-below cs i a (listed-whole (getElem? cs i) a h)
+      let p = evaluated x (r .0) (r .1) in
+      record { range = p .range; taken = λ tw tc. negated-result (r .0) a (p .taken tw tc) (r .2) .1 .taken }
+  evaluated (on x y) a h =
+      let r = joint-whole joinedOf (evaluate ws cs x) (evaluate ws cs y) a h in
+      let p = evaluated x (r .0) (r .2) in
+      let q = evaluated y (r .1) (r .3) in
+      record { range = (p .range, q .range); taken = λ tw tc. joined-result (r .0) (r .1) a (p .taken tw tc) (q .taken tw tc) (r .4) .taken }
+  evaluated (clock i) a h =
+      let e = listed-whole (getElem? cs i) a h in
+      record { range = lookup-below cs i a e; taken = λ tw tc. tc i a e }
+
+  pub evaluate-taken : AllTaken ws → AllTaken cs → (x : Expr) (a : Node) → evaluate ws cs x ≡ whole a → Taken (a .envelope)
+  evaluate-taken tw tc x a h = evaluated x a h .taken tw tc
+
+  pub evaluate-range : (x : Expr) (a : Node) → evaluate ws cs x ≡ whole a → InRange (length ws) (length cs) x
+  evaluate-range x a h = evaluated x a h .range

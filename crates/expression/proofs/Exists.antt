@@ -7,6 +7,7 @@ use lib.ListN.{length, take, getElem?}
 use Rattle.envelope.specs.declared.Node.{Node}
 use Rattle.envelope.specs.Stream.{Stream, Lies}
 use Rattle.envelope.specs.Envelope.{normalOf}
+use Rattle.envelope.specs.Made.{joinedOf}
 use Rattle.envelope.proofs.Normal.{keeps-normal}
 use Rattle.envelope.proofs.Not.{notStream}
 use Rattle.envelope.proofs.On.{onStream}
@@ -18,7 +19,7 @@ use Rattle.expression.specs.Stands.{Stands}
 use Rattle.expression.specs.Evaluate.{Worth.whole, evaluate, wordNode, wordNodes, Worked}
 use Rattle.expression.specs.Promise.{AllLegal}
 use Rattle.expression.proofs.Lookup.{lookup-below, lookup-there, lookup-take, lookup-map}
-use Rattle.expression.proofs.Evaluated.{onward-whole, listed-whole, declared-result, negated-result}
+use Rattle.expression.proofs.Evaluated.{onward-whole, joint-whole, listed-whole, declared-result, negated-result}
 use Rattle.expression.proofs.Sound.{part-taken, sound}
 
 module _ (words : List Word) (clocks : List Clock) (xs : List Node) (w : Worked words clocks xs) (legal : AllLegal words) where
@@ -47,10 +48,9 @@ module _ (words : List Word) (clocks : List Clock) (xs : List Node) (w : Worked 
       let s = notStream (p .0) (r .0 .envelope) (q .0) (sound words clocks xs w legal (p .1) j (r .0) (r .1)) in
       (s .0, Stands.negated (p .1) (s .1))
   within j ih (on x y) a h =
-      let r = onward-whole (evaluate ws (take j xs) x) _ a h in
-      let q = onward-whole (evaluate ws (take j xs) y) _ a (r .2) in
-      let b : Some x = within j ih x (r .0) (r .1) in
-      let c : Some y = within j ih y (q .0) (q .1) in
+      let r = joint-whole joinedOf (evaluate ws (take j xs) x) (evaluate ws (take j xs) y) a h in
+      let b : Some x = within j ih x (r .0) (r .2) in
+      let c : Some y = within j ih y (r .1) (r .3) in
       let s = onStream (b .0) (c .0) in
       (s .0, Stands.on (b .1) (c .1) (s .1))
   within j ih (clock i) a h =

@@ -1,6 +1,6 @@
 pub mod Lookup
 pub mod Fields
-pub mod Descent
+pub mod Tags
 pub mod Format
 pub mod Evaluated
 pub mod Sound
@@ -10,6 +10,5 @@ pub mod Blame
 pub mod Reader
 pub mod Promise
 pub mod Tables
-pub mod Strip
-pub mod Results
 pub mod Answers
+pub mod Skips

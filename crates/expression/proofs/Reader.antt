@@ -1,100 +1,141 @@
--- The reader of an expression, both ways: what it accepts is spelled there, and what is spelled there it accepts. Assumes nothing.
-use mathlib.Core.Path.{_≡_, refl, sym, ap, _∙_, subst}
-use mathlib.Core.List.{List, [], _∷_}
-use Prim.Native.Nat.{ℕ, zero, suc, _+_, _≤_, _<_}
+-- The reader of an expression, both ways: what it accepts is spelled there and has that node, and what is spelled there it accepts. Assumes nothing.
+use mathlib.Core.Path.{_≡_, refl, sym, ap, _∙_}
+use mathlib.Core.List.{List, [], _∷_, _++_}
+use mathlib.Core.Option.{Option, none, some}
+use Prim.Native.Nat.{ℕ, zero, suc, max, _+_, _≤_}
 use native.Mathlib.Omega.{arith}
 use lib.ListN.{length, getElem?}
-use Rattle.reply.specs.Numbers.{beyond, unknown, absent}
-use Rattle.field.specs.Read.{Read, Read.got}
-use Rattle.field.specs.Spelling.{bytesOf, twos, AllBytes, Bytes}
+use Rattle.reply.specs.Numbers.{beyond}
+use Rattle.field.specs.Read.{Read.got}
 use Rattle.field.specs.Field.{fieldIn, signedIn}
-use Rattle.field.proofs.Read.{refused-got, through}
+use Rattle.field.specs.Format.{Judged, Judged.passes, Judged.fails, Format, Piece, ranged, signedRanged}
+use Rattle.field.specs.Spelling.{bytesOf, AllBytes, Bytes}
 use Rattle.field.proofs.Spelling.{join}
-use Rattle.field.proofs.Fields.{fieldIn-bytes, byteIn-bytes}
+use Rattle.field.proofs.Fields.{fieldIn-bytes}
 use Rattle.field.proofs.SignedFields.{signedIn-bytes}
+use Rattle.field.proofs.Format.{read-piece, piece-read, piece-bytes, ranged-run, signed-run}
+use Rattle.envelope.specs.declared.Envelope.{Envelope}
 use Rattle.envelope.specs.declared.Node.{Node}
+use Rattle.envelope.specs.declared.Made.{Made}
+use Rattle.envelope.specs.declared.Made.the-variants.{Whole, Empty, FullRate, Outgrown}
 use Rattle.envelope.specs.Limits.{lMost, lowerLeast, lowerMost, upperLeast, upperMost}
-use Rattle.envelope.specs.Made.{negatedOf, joinedOf}
-use Rattle.expression.specs.Expression.{Expr, depth, spell}
-use Rattle.expression.specs.Expression.Expr.{word, declared, negated, on, clock}
-use Rattle.expression.specs.Evaluate.{Worth, Worth.whole, Worth.fault, worthOf, onward, listed, evaluate}
+use Rattle.envelope.specs.Made.{joinedOf}
+use Rattle.expression.specs.Expression.{Tag, tagNumber, Expr, depth, spell}
+use Rattle.expression.specs.Evaluate.{Worth, Worth.whole, worthOf, joint, listed, evaluate}
 use Rattle.expression.specs.Reader.{exprAt}
-use Rattle.expression.specs.Format.{Valued}
-use Rattle.expression.proofs.Descent.{place, node, descend}
-use Rattle.expression.proofs.Format.{descends}
+use Rattle.expression.specs.Format.{Valued, tag, found, named, both, parts, kept, expression}
 use Rattle.expression.specs.Spelled.{indexes, Spelled}
 use Rattle.expression.specs.Blame.{blame}
 use Rattle.expression.proofs.Evaluated.{evaluate-range}
-use Rattle.expression.proofs.Blame.{answered}
+use Rattle.expression.proofs.Fields.{declared-worth, fields-read}
+use Rattle.expression.proofs.Tags.{tag-bytes}
+use Rattle.expression.proofs.Blame.{place, answered}
+
+-- ---- tests that were passed
+fails-passes : {A B : Type 0} {number : ℕ} {x : A} → _≡_ {A = Judged A} (fails number) (passes x) → B
+fails-passes h = let z : _≡_ {A = ℕ} 0 1 = cc in absurd (omega arith)
+
+kept-passes : (x : Expr) (m : Made) (y : Valued) → kept x m ≡ passes y → (x ≡ y .expr) × (m ≡ Whole (y .node))
+kept-passes x (Whole a) y h =
+    let z : _≡_ {A = Valued} (record { expr = x; node = a }) y = cc in
+    (ap (λ (v : Valued). v .expr) z, ap (λ (v : Valued). Whole (v .node)) z)
+kept-passes x Empty y h = fails-passes h
+kept-passes x FullRate y h = fails-passes h
+kept-passes x Outgrown y h = fails-passes h
+
+found-passes : (x : Expr) (o : Option Node) (r : Expr × Made) → found x o ≡ passes r → (e : Node) × (o ≡ some e) × (_≡_ {A = Expr × Made} (x, Whole e) r)
+found-passes x none r h = fails-passes h
+found-passes x (some e) r h = (e, refl, cc)
 
 -- ---- what is accepted is spelled there
+module _ (s : List ℕ) (ws cs : List Node) where
+  pub record Stands (d a : ℕ) (y : Valued) (c : ℕ) : Type 0 where
+    pub shallow : depth (y .expr) ≤ d
+    pub value : evaluate ws cs (y .expr) ≡ whole (y .node)
+    pub bytes : AllBytes s → Bytes s a (spell (y .expr)) c
 
--- a node that was accepted had an envelope
-placed : (x : Expr) (m : Worth) (d tag : ℕ) (y : Valued) (c : ℕ) → place x m d tag ≡ got y c → (y .expr ≡ x) × (m ≡ whole (y .node)) × (d ≡ c)
-placed x (whole a) d tag y c h =
-    let z : _≡_ {A = Valued} (record { expr = x; node = a }) y = cc in
-    (ap (λ (v : Valued). v .expr) (sym z), ap (λ (v : Valued). whole (v .node)) z, cc)
-placed x (fault number) d tag y c h = refused-got h
+  -- behind the tag t
+  record Follows (d : ℕ) (t : Tag) (b : ℕ) (r : Expr × Made) (c : ℕ) : Type 0 where
+    pub shallow : depth (r .0) ≤ suc d
+    pub value : evaluate ws cs (r .0) ≡ worthOf (r .1)
+    pub bytes : AllBytes s → (a : ℕ) → Bytes s a (tagNumber t ∷ []) b → Bytes s a (spell (r .0)) c
 
-module _ (s : List ℕ) (bytes : AllBytes s) (ws cs : List Node) where
-  finish : (D a : ℕ) (x : Expr) (m : Worth) (d tag : ℕ) (y : Valued) (c : ℕ) → place x m d tag ≡ got y c → depth x ≤ D → evaluate ws cs x ≡ m → Bytes s a (spell x) d
-      → Spelled s ws cs D a (y .expr) (y .node) c
-  finish D a x m d tag y c h p q b =
-      let r = placed x m d tag y c h in
-      let t : Spelled s ws cs D a x (y .node) c = record { shallow = p; value = q ∙ r .1; bytes = subst (λ (z : ℕ). Bytes s a (spell x) z) (r .2) b } in
-      subst (λ (z : Expr). Spelled s ws cs D a z (y .node) c) (sym (r .0)) t
+  named-follows : (d : ℕ) (t : Tag) (make : ℕ → Expr) (xs : List Node) → ((i : ℕ) → depth (make i) ≡ 1) → ((i : ℕ) → evaluate ws cs (make i) ≡ listed (getElem? xs i)) → ((i : ℕ) → spell (make i) ≡ tagNumber t ∷ bytesOf 2 i)
+      → (b : ℕ) (r : Expr × Made) (c : ℕ) → Piece s (named make xs) b r c → Follows d t b r c
+  named-follows d t make xs deep worth spelled b r c p =
+      let q = found-passes (make (p .0)) (getElem? xs (p .0)) r (p .2) in
+      rw (← q .2) (record {
+        shallow = omega (arith, deep (p .0));
+        value = worth (p .0) ∙ ap listed (q .1);
+        bytes = λ all a h. rw (spelled (p .0)) (join h (piece-bytes s all 2 b (p .0) c (p .1)));
+      })
 
-  node-reads : (d : ℕ) (part : ℕ → Read Valued) → ((b : ℕ) (y : Valued) (c : ℕ) → part b ≡ got y c → Spelled s ws cs d b (y .expr) (y .node) c)
-      → (a tag c : ℕ) (y : Valued) (b : ℕ) → tag < 6 → Bytes s a (tag ∷ []) c → node s ws cs part a tag c ≡ got y b → Spelled s ws cs (suc d) a (y .expr) (y .node) b
-  unfolding node depth evaluate spell
-  node-reads d part ih a zero c y b lt p h = refused-got h
-  node-reads d part ih a (suc zero) c y b lt p h =
-      let r = through (fieldIn 2 0 (length ws) absent s c) _ y b h in
-      let i : ℕ = r .0 in
-      finish (suc d) a (word i) (listed (getElem? ws i)) (r .1) a y b (r .3) (omega arith) refl
-      (join p (fieldIn-bytes s bytes 2 0 (length ws) absent c i (r .1) (r .2) .3))
-  node-reads d part ih a (suc (suc zero)) c y b lt p h =
-      let r₁ = through (signedIn lowerLeast lowerMost s c) _ y b h in
-      let r₂ = through (signedIn upperLeast upperMost s (r₁ .1)) _ y b (r₁ .3) in
-      let r₃ = through (fieldIn 4 1 (lMost + 1) beyond s (r₂ .1)) _ y b (r₂ .3) in
-      let r₄ = through (fieldIn 4 1 (r₃ .0 + 1) beyond s (r₃ .1)) _ y b (r₃ .3) in
-      let b₁ : Bytes s c (bytesOf 4 (twos (r₁ .0))) (r₁ .1) = signedIn-bytes s bytes lowerLeast lowerMost c (r₁ .0) (r₁ .1) (r₁ .2) .2 in
-      let b₂ : Bytes s (r₁ .1) (bytesOf 4 (twos (r₂ .0))) (r₂ .1) = signedIn-bytes s bytes upperLeast upperMost (r₁ .1) (r₂ .0) (r₂ .1) (r₂ .2) .2 in
-      let b₃ : Bytes s (r₂ .1) (bytesOf 4 (r₃ .0)) (r₃ .1) = fieldIn-bytes s bytes 4 1 (lMost + 1) beyond (r₂ .1) (r₃ .0) (r₃ .1) (r₃ .2) .3 in
-      let b₄ : Bytes s (r₃ .1) (bytesOf 4 (r₄ .0)) (r₄ .1) = fieldIn-bytes s bytes 4 1 (r₃ .0 + 1) beyond (r₃ .1) (r₄ .0) (r₄ .1) (r₄ .2) .3 in
-      finish (suc d) a (declared (r₁ .0) (r₂ .0) (r₃ .0) (r₄ .0)) _ (r₄ .1) a y b (r₄ .3) (omega arith) refl
-      (join p (join b₁ (join b₂ (join b₃ b₄))))
-  node-reads d part ih a (suc (suc (suc zero))) c y b lt p h =
-      let r = through (part c) _ y b h in
-      let t = ih c (r .0) (r .1) (r .2) in
-      finish (suc d) a (negated (r .0 .expr)) (worthOf (negatedOf (r .0 .node .envelope))) (r .1) a y b (r .3) (omega (arith, t .shallow))
-      (ap (λ (m : Worth). onward m (λ e. worthOf (negatedOf (e .envelope)))) (t .value)) (join p (t .bytes))
-  node-reads d part ih a (suc (suc (suc (suc zero)))) c y b lt p h =
-      let r = through (part c) _ y b h in
-      let q = through (part (r .1)) _ y b (r .3) in
-      let t = ih c (r .0) (r .1) (r .2) in
-      let u = ih (r .1) (q .0) (q .1) (q .2) in
-      finish (suc d) a (on (r .0 .expr) (q .0 .expr)) (worthOf (joinedOf (r .0 .node .envelope) (q .0 .node .envelope))) (q .1) a y b (q .3) (omega (arith, t .shallow, u .shallow))
-      (ap (λ (m : Worth). onward m (λ e. onward (evaluate ws cs (q .0 .expr)) (λ f. worthOf (joinedOf (e .envelope) (f .envelope))))) (t .value)
-      ∙ ap (λ (m : Worth). onward m (λ f. worthOf (joinedOf (r .0 .node .envelope) (f .envelope)))) (u .value))
-      (join p (join (t .bytes) (u .bytes)))
-  node-reads d part ih a (suc (suc (suc (suc (suc n))))) c y b lt p h =
-      let r = through (fieldIn 2 0 (length cs) absent s c) _ y b h in
-      let i : ℕ = r .0 in
-      let z : suc (suc (suc (suc (suc n)))) ≡ 5 = omega arith in
-      finish (suc d) a (clock i) (listed (getElem? cs i)) (r .1) a y b (r .3) (omega arith) refl
-      (join (subst (λ (t : ℕ). Bytes s a (t ∷ []) c) z p) (fieldIn-bytes s bytes 2 0 (length cs) absent c i (r .1) (r .2) .3))
+  module _ (d : ℕ) (part : Format Valued) (ih : (b : ℕ) (y : Valued) (c : ℕ) → Piece s part b y c → Stands d b y c) where
+    both-follows : (t : Tag) (make : Expr → Expr → Expr) (rule : Envelope → Envelope → Made)
+        → ((x y : Expr) → depth (make x y) ≡ suc (max (depth x) (depth y))) → ((x y : Expr) → evaluate ws cs (make x y) ≡ joint rule (evaluate ws cs x) (evaluate ws cs y)) → ((x y : Expr) → spell (make x y) ≡ tagNumber t ∷ (spell x ++ spell y))
+        → (b : ℕ) (r : Expr × Made) (c : ℕ) → Piece s (both part make rule) b r c → Follows d t b r c
+    both-follows t make rule deep worth spelled b r c p =
+        let q = p .3 in
+        let x = ih b (p .0) (p .1) (p .2) in
+        let y = ih (p .1) (q .0) (q .1) (q .2) in
+        rw (← q .3 .0) (record {
+          shallow = omega (arith, deep (p .0 .expr) (q .0 .expr), x .shallow, y .shallow);
+          value = worth (p .0 .expr) (q .0 .expr) ∙ rw (x .value, y .value);
+          bytes = λ all a h. rw (spelled (p .0 .expr) (q .0 .expr), ← q .3 .1) (join h (join (x .bytes all) (y .bytes all)));
+        })
 
-  descent-reads : (d a : ℕ) (y : Valued) (c : ℕ) → descend d s ws cs a ≡ got y c → Spelled s ws cs d a (y .expr) (y .node) c
-  unfolding descend
-  descent-reads zero a y c h = refused-got (through (fieldIn 1 1 6 unknown s a) _ y c h .3)
-  descent-reads (suc d) a y c h =
-      let r = through (fieldIn 1 1 6 unknown s a) _ y c h in
-      let b = byteIn-bytes s bytes 1 6 unknown a (r .0) (r .1) (r .2) in
-      node-reads d (descend d s ws cs) (λ b y c k. descent-reads d b y c k) a (r .0) (r .1) y c (b .1) (b .2) (r .3)
+    parts-follow : (t : Tag) (b : ℕ) (r : Expr × Made) (c : ℕ) → Piece s (parts ws cs part t) b r c → Follows d t b r c
+    unfolding parts depth evaluate spell
+    parts-follow Tag.word b r c p = named-follows d Tag.word Expr.word ws (λ i. refl) (λ i. refl) (λ i. refl) b r c p
+    parts-follow Tag.declared b r c p =
+        let q₁ = p .3 in
+        let q₂ = q₁ .3 in
+        let q₃ = q₂ .3 in
+        let k : signedIn lowerLeast lowerMost s b ≡ got (p .0) (p .1) = sym (signed-run lowerLeast lowerMost s b) ∙ piece-read s (signedRanged lowerLeast lowerMost) b (p .0) (p .1) (p .2) in
+        let K : signedIn upperLeast upperMost s (p .1) ≡ got (q₁ .0) (q₁ .1) = sym (signed-run upperLeast upperMost s (p .1)) ∙ piece-read s (signedRanged upperLeast upperMost) (p .1) (q₁ .0) (q₁ .1) (q₁ .2) in
+        let l : fieldIn 4 1 (lMost + 1) beyond s (q₁ .1) ≡ got (q₂ .0) (q₂ .1) = sym (ranged-run 4 1 (lMost + 1) beyond s (q₁ .1)) ∙ piece-read s (ranged 4 1 (lMost + 1) beyond) (q₁ .1) (q₂ .0) (q₂ .1) (q₂ .2) in
+        let n : fieldIn 4 1 (q₂ .0 + 1) beyond s (q₂ .1) ≡ got (q₃ .0) (q₃ .1) = sym (ranged-run 4 1 (q₂ .0 + 1) beyond s (q₂ .1)) ∙ piece-read s (ranged 4 1 (q₂ .0 + 1) beyond) (q₂ .1) (q₃ .0) (q₃ .1) (q₃ .2) in
+        rw (← q₃ .3 .0) (record {
+          shallow = omega arith;
+          value = declared-worth (p .0) (q₁ .0) (q₂ .0) (q₃ .0) (fields-read (p .0) (q₁ .0) (q₂ .0) (q₃ .0) s b (p .1) (q₁ .1) (q₂ .1) (q₃ .1) k K l n);
+          bytes = λ all a h. rw (← q₃ .3 .1)
+              (join h
+              (join (signedIn-bytes s all lowerLeast lowerMost b (p .0) (p .1) k .2)
+              (join (signedIn-bytes s all upperLeast upperMost (p .1) (q₁ .0) (q₁ .1) K .2)
+              (join (fieldIn-bytes s all 4 1 (lMost + 1) beyond (q₁ .1) (q₂ .0) (q₂ .1) l .3)
+              (fieldIn-bytes s all 4 1 (q₂ .0 + 1) beyond (q₂ .1) (q₃ .0) (q₃ .1) n .3)))));
+        })
+    parts-follow Tag.negated b r c p =
+        let x = ih b (p .0) (p .1) (p .2) in
+        rw (← p .3 .0) (record {
+          shallow = omega (arith, x .shallow);
+          value = rw (x .value);
+          bytes = λ all a h. rw (← p .3 .1) (join h (x .bytes all));
+        })
+    parts-follow Tag.on b r c p = both-follows Tag.on Expr.on joinedOf (λ x y. refl) (λ x y. refl) (λ x y. refl) b r c p
+    parts-follow Tag.clock b r c p = named-follows d Tag.clock Expr.clock cs (λ i. refl) (λ i. refl) (λ i. refl) b r c p
 
-  pub reads : (d a : ℕ) (y : Valued) (c : ℕ) → exprAt d s ws cs a ≡ got y c → Spelled s ws cs d a (y .expr) (y .node) c
-  reads d a y c h = descent-reads d a y c (sym (descends s ws cs d a) ∙ h)
+  piece-stands : (d a : ℕ) (y : Valued) (c : ℕ) → Piece s (expression d ws cs) a y c → Stands d a y c
+  unfolding expression
+  piece-stands zero a y c p = fails-passes (p .2)
+  piece-stands (suc d) a y c p =
+      let q = p .1 in
+      let f = parts-follow d (expression d ws cs) (piece-stands d) (q .0) (q .1) (p .0) c (q .3) in
+      let k = kept-passes (p .0 .0) (p .0 .1) y (p .2) in
+      record {
+        shallow = rw (← k .0) (f .shallow);
+        value = rw (← k .0) (f .value ∙ ap worthOf (k .1));
+        bytes = λ all. rw (← k .0) (f .bytes all a (tag-bytes s all a (q .0) (q .1) (piece-read s tag a (q .0) (q .1) (q .2))));
+      }
+
+  pub stands : (d a : ℕ) (y : Valued) (c : ℕ) → exprAt d s ws cs a ≡ got y c → Stands d a y c
+  unfolding exprAt
+  stands d a y c h = piece-stands d a y c (read-piece s (expression d ws cs) a y c h)
+
+pub reads : (s : List ℕ) → AllBytes s → (ws cs : List Node) (d a : ℕ) (y : Valued) (c : ℕ) → exprAt d s ws cs a ≡ got y c → Spelled s ws cs d a (y .expr) (y .node) c
+reads s all ws cs d a y c h =
+    let t = stands s ws cs d a y c h in
+    record { shallow = t .shallow; value = t .value; bytes = t .bytes all }
 
 -- ---- and what is spelled there is accepted
 pub spelled-read : (s : List ℕ) (ws cs : List Node) → length ws ≤ indexes → length cs ≤ indexes → (d a : ℕ) (x : Expr) (e : Node) (c : ℕ)

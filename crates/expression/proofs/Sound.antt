@@ -11,6 +11,7 @@ use Rattle.envelope.specs.declared.Node.{Node}
 use Rattle.envelope.specs.Stream.{Stream, Lies}
 use Rattle.envelope.specs.Envelope.{Taken}
 use Rattle.envelope.specs.Word.{wordOf}
+use Rattle.envelope.specs.Made.{joinedOf}
 use Rattle.envelope.proofs.Streams.{has-lies}
 use Rattle.envelope.proofs.Normal.{normal-keeps}
 use Rattle.envelope.proofs.Not.{not-keeps}
@@ -23,7 +24,7 @@ use Rattle.expression.specs.Evaluate.{Worth.whole, evaluate, wordNode, w
 use Rattle.expression.specs.Inner.Nodes.{AllTaken}
 use Rattle.expression.specs.Promise.{AllLegal}
 use Rattle.expression.proofs.Lookup.{lookup-below, lookup-there, lookup-take, lookup-map}
-use Rattle.expression.proofs.Evaluated.{Result, onward-whole, listed-whole, declared-result, negated-result, joined-result, evaluate-taken}
+use Rattle.expression.proofs.Evaluated.{Result, onward-whole, joint-whole, listed-whole, declared-result, negated-result, joined-result, evaluate-taken}
 
 -- a stream lies in what a rule made
 made : (s : Stream) (e : Envelope) (a : Node) → Result e a → Lies s e → Lies s (a .envelope)
@@ -77,15 +78,14 @@ module _ (words : List Word) (clocks : List Clock) (xs : List Node) (w : Worked 
       let t = negated-result (r .0) a (part-taken j x (r .0) (r .1)) (r .2) in
       made s _ a (t .1) (has-lies s _ _ q (not-keeps b (r .0 .envelope) (t .0) (sound p j (r .0) (r .1))))
   sound (on {x = x} {y = y} {a = b} {b = c} {s = s} p q o) j a h =
-      let r = onward-whole (evaluate ws (take j xs) x) _ a h in
-      let r′ = onward-whole (evaluate ws (take j xs) y) _ a (r .2) in
+      let r = joint-whole joinedOf (evaluate ws (take j xs) x) (evaluate ws (take j xs) y) a h in
       let e : Envelope = r .0 .envelope in
-      let f : Envelope = r′ .0 .envelope in
-      let t : Taken e = part-taken j x (r .0) (r .1) in
-      let t′ : Taken f = part-taken j y (r′ .0) (r′ .1) in
+      let f : Envelope = r .1 .envelope in
+      let t : Taken e = part-taken j x (r .0) (r .2) in
+      let t′ : Taken f = part-taken j y (r .1) (r .3) in
       let m : 0 < e .n * f .n = mul-pos (t .n-least) (t′ .n-least) in
-      made s _ a (joined-result (r .0) (r′ .0) a t t′ (r′ .2))
-      (has-lies s _ _ o (on-keeps (b .bit) (c .bit) e f m (sound p j (r .0) (r .1)) (sound q j (r′ .0) (r′ .1))))
+      made s _ a (joined-result (r .0) (r .1) a t t′ (r .4))
+      (has-lies s _ _ o (on-keeps (b .bit) (c .bit) e f m (sound p j (r .0) (r .2)) (sound q j (r .1) (r .3))))
   sound (clock {i = i} {c = c} {s = s} p q) j a h =
       let r = w .each i c p in
       let t = lookup-take xs j i a (listed-whole (getElem? (take j xs) i) a h) in

@@ -12,11 +12,14 @@ abbrev pub faulty : Worth → ℕ → ℕ → ℕ
 faulty (whole a) here inside = here
 faulty (fault number) here inside = inside
 
+-- of two parts, the first with so many bytes; each part with how far behind its own first byte
+abbrev pub faultyOf : Worth → Worth → ℕ → ℕ → ℕ → ℕ
+faultyOf m o size left right = faulty m (faulty o 0 (1 + (size + right))) (1 + left)
+
 -- how far behind the expression's first byte the tag of that node stands: "its tag"
 unfoldable pub blame : List Node → List Node → Expr → ℕ
 blame ws cs (word i) = 0
 blame ws cs (declared k K l n) = 0
 blame ws cs (negated x) = faulty (evaluate ws cs x) 0 (1 + blame ws cs x)
-blame ws cs (on x y) =
-    faulty (evaluate ws cs x) (faulty (evaluate ws cs y) 0 (1 + (length (spell x) + blame ws cs y))) (1 + blame ws cs x)
+blame ws cs (on x y) = faultyOf (evaluate ws cs x) (evaluate ws cs y) (length (spell x)) (blame ws cs x) (blame ws cs y)
 blame ws cs (clock i) = 0

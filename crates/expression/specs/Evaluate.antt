@@ -9,6 +9,7 @@ use lib.Dec.{leb}
 use lib.ListN.{length, take, getElem?}
 use Rattle.reply.specs.Numbers.{beyond, absent}
 use Rattle.field.specs.Field.{betweenZ}
+use Rattle.envelope.specs.declared.Envelope.{Envelope}
 use Rattle.envelope.specs.declared.Node.{Node}
 use Rattle.envelope.specs.declared.Made.{Made}
 use Rattle.envelope.specs.declared.Made.the-variants.{Whole, Empty, FullRate, Outgrown}
@@ -33,6 +34,10 @@ abbrev pub onward : Worth → (Node → Worth) → Worth
 onward (whole x) go = go x
 onward (fault number) go = fault number
 
+-- what a rule makes of two parts, left first
+abbrev pub joint : (Envelope → Envelope → Made) → Worth → Worth → Worth
+joint rule m o = onward m λ a. onward o λ b. worthOf (rule (a .envelope) (b .envelope))
+
 -- "a word, earlier clock .. that isn't there"
 abbrev pub listed : Option Node → Worth
 listed none = fault absent
@@ -51,8 +56,7 @@ unfoldable pub evaluate : List Node → List Node → Expr → Worth
 evaluate ws cs (word i) = listed (getElem? ws i)
 evaluate ws cs (declared k K l n) = declaredWorth k K l n
 evaluate ws cs (negated x) = onward (evaluate ws cs x) λ a. worthOf (negatedOf (a .envelope))
-evaluate ws cs (on x y) =
-    onward (evaluate ws cs x) λ a. onward (evaluate ws cs y) λ b. worthOf (joinedOf (a .envelope) (b .envelope))
+evaluate ws cs (on x y) = joint joinedOf (evaluate ws cs x) (evaluate ws cs y)
 evaluate ws cs (clock i) = listed (getElem? cs i)
 
 abbrev pub wordNode : Word → Node

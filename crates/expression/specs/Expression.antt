@@ -11,6 +11,24 @@ pub record Word : Type 0 where
   pub period : List ℕ
 
 -- "1 word; 2 declared; 3 not; 4 on; 5 earlier clock"
+pub data Tag : Type 0 where
+  word : Tag
+  declared : Tag
+  negated : Tag
+  on : Tag
+  clock : Tag
+
+abbrev pub tagNumber : Tag → ℕ
+tagNumber Tag.word = 1
+tagNumber Tag.declared = 2
+tagNumber Tag.negated = 3
+tagNumber Tag.on = 4
+tagNumber Tag.clock = 5
+
+-- the largest of these numbers
+abbrev pub tagMost : ℕ
+tagMost = 5
+
 pub data Expr : Type 0 where
   word : ℕ → Expr
   declared : ℤ → ℤ → ℕ → ℕ → Expr
@@ -25,11 +43,11 @@ pub record Clock : Type 0 where
 
 -- "Expressions nest inside one another .. the outermost node has depth 1"
 unfoldable pub depth : Expr → ℕ
-depth (word i) = 1
-depth (declared k K l n) = 1
-depth (negated x) = suc (depth x)
-depth (on x y) = suc (max (depth x) (depth y))
-depth (clock i) = 1
+depth (Expr.word i) = 1
+depth (Expr.declared k K l n) = 1
+depth (Expr.negated x) = suc (depth x)
+depth (Expr.on x y) = suc (max (depth x) (depth y))
+depth (Expr.clock i) = 1
 
 -- "to a depth of 12"
 abbrev pub depthMost : ℕ
@@ -37,11 +55,11 @@ depthMost = 12
 
 -- "An expression is a tag u8 and its parts"
 unfoldable pub spell : Expr → List ℕ
-spell (word i) = 1 ∷ bytesOf 2 i
-spell (declared k K l n) = 2 ∷ (bytesOf 4 (twos k) ++ (bytesOf 4 (twos K) ++ (bytesOf 4 l ++ bytesOf 4 n)))
-spell (negated x) = 3 ∷ spell x
-spell (on x y) = 4 ∷ (spell x ++ spell y)
-spell (clock i) = 5 ∷ bytesOf 2 i
+spell (Expr.word i) = tagNumber Tag.word ∷ bytesOf 2 i
+spell (Expr.declared k K l n) = tagNumber Tag.declared ∷ (bytesOf 4 (twos k) ++ (bytesOf 4 (twos K) ++ (bytesOf 4 l ++ bytesOf 4 n)))
+spell (Expr.negated x) = tagNumber Tag.negated ∷ spell x
+spell (Expr.on x y) = tagNumber Tag.on ∷ (spell x ++ spell y)
+spell (Expr.clock i) = tagNumber Tag.clock ∷ bytesOf 2 i
 
 -- "prefix length u8, period length u8, prefix bits, period bits, one byte 0 or 1 each"
 abbrev pub spellWord : Word → List ℕ

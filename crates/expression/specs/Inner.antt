@@ -1,3 +1,4 @@
 -- Definitions that only contracts of inner functions and proofs use: no demand rests on them.
 pub mod Nodes
 pub mod Parts
+pub mod Skipping

@@ -10,12 +10,27 @@ ghost use Rattle.expression.specs.Reader.{exprAt, nodeIn, valueOf};
 ghost use Rattle.expression.specs.Table.{flat};
 ghost use Rattle.expression.specs.Inner.Nodes.{Holds, nodesIn, nodeAt};
 ghost use Rattle.expression.specs.Inner.Parts.{placed, listedAt, declaredAt};
+ghost use Rattle.expression.specs.Inner.Skipping.{ownBytes, partsOf, HasExpr};
 use envelope::Envelope;
 use envelope::Made;
 use envelope::Node;
 use field::Cursor;
 use field::Field;
 use field::Signed;
+
+// The tags, by their numbers.
+const WORD: usize = 1;
+
+const DECLARED: usize = 2;
+
+const NOT: usize = 3;
+
+const ON: usize = 4;
+
+const CLOCK: usize = 5;
+
+// The largest of them.
+const TAG_MOST: usize = CLOCK;
 
 // A node and the cursor past it; or a refusal's number and place.
 pub enum Value {
@@ -114,19 +129,19 @@ pub fn evaluate(start: Cursor, s: &[u8], words: &[i32], clocks: &[i32], depth: u
     ensures { λ r. ⌜ valueOf r ≡ mapped nodeIn (exprAt depth (now (s .entry)) (nodesIn (now (words .entry))) (nodesIn (now (clocks .entry))) (start .at)) ⌝ }
 {
     let tag_at = start.at;
-    match start.within(s, 1, 1, 6, reply::UNKNOWN) {
+    match start.within(s, 1, 1, TAG_MOST + 1, reply::UNKNOWN) {
         Field::Refused(number, at) => Value::Refused(number, at),
         Field::Got(tag, c) => {
             if depth == 0 {
                 return Value::Refused(reply::TOO_DEEP, tag_at);
             }
-            if tag == 1 {
+            if tag == WORD {
                 return listed(c, s, words);
             }
-            if tag == 2 {
+            if tag == DECLARED {
                 return declared(c, s, tag_at);
             }
-            if tag == 5 {
+            if tag == CLOCK {
                 return listed(c, s, clocks);
             }
             let a = evaluate(c, s, words, clocks, depth - 1);
@@ -134,7 +149,7 @@ pub fn evaluate(start: Cursor, s: &[u8], words: &[i32], clocks: &[i32], depth: u
                 return a;
             };
             let e = x.envelope;
-            if tag == 3 {
+            if tag == NOT {
                 return place(e.negated(), d, tag_at);
             }
             let b = evaluate(d, s, words, clocks, depth - 1);
@@ -144,4 +159,42 @@ pub fn evaluate(start: Cursor, s: &[u8], words: &[i32], clocks: &[i32], depth: u
             place(e.joined(y.envelope), f, tag_at)
         }
     }
+}
+
+// How many bytes a node has besides its parts.
+fn own_bytes(tag: usize) -> usize
+    ensures { λ r. ⌜ r ≡ ownBytes tag ⌝ }
+{
+    match tag {
+        WORD | CLOCK => 3,
+        DECLARED => 17,
+        _ => 1,
+    }
+}
+
+// How many parts it has.
+fn parts(tag: usize) -> usize
+    ensures { λ r. ⌜ r ≡ partsOf tag ⌝ }
+{
+    match tag {
+        WORD | CLOCK => 0,
+        DECLARED => 0,
+        NOT => 1,
+        _ => 2,
+    }
+}
+
+// The place past the expression that stands at `start`: `left` counts the expressions still to skip.
+pub fn past(s: &[u8], start: usize) -> usize
+    requires { ⌜ ((c : ℕ) × HasExpr (now s) start c) ⌝ }
+    ensures { λ r. ⌜ ((c : ℕ) → HasExpr (now (s .entry)) start c → r ≡ c) ⌝ }
+{
+    let mut at = start;
+    let mut left: usize = 1;
+    while 0 < left {
+        let tag = s[at] as usize;
+        at += own_bytes(tag);
+        left = left - 1 + parts(tag);
+    }
+    at
 }

@@ -15,7 +15,8 @@ use Rattle.field.specs.Read.{Read, Read.got, Read.refused, bind}
 use Rattle.field.specs.Field.{lowFirst, fieldAt, fieldIn, signed, signedAt, betweenZ, signedIn}
 use Rattle.field.specs.Format.{Judged, Judged.passes, Judged.fails, Format, Format.known, Format.field, Format.then, Format.tested, Piece, Fault, ranged, signedRanged}
 use Rattle.field.specs.Run.{settled, run}
-use Rattle.field.proofs.Fields.{field-short, field-whole}
+use Rattle.field.specs.Spelling.{bytesOf, AllBytes, Bytes}
+use Rattle.field.proofs.Fields.{field-short, field-whole, field-bytes}
 
 abbrev Said : {A : Type 0} → List ℕ → Format A → ℕ → Read A → Type 0
 Said s t a (got x c) = Piece s t a x c
@@ -77,6 +78,16 @@ module _ (s : List ℕ) where
   fault-read (then t next) a number p (inr h) = rw (piece-read t a (h .0) (h .1) (h .2)) (fault-read (next (h .0)) (h .1) number p (h .3))
   fault-read (tested t test) a number p (inl h) = rw (fault-read t a number p h)
   fault-read (tested t test) a number p (inr h) = rw (piece-read t a (h .0) (h .1) (h .2), h .3, h .4)
+
+  -- a piece after another
+  pub then-got : {A B : Type 0} (t : Format A) (next : A → Format B) (a : ℕ) (x : A) (c : ℕ) → run t s a ≡ got x c → run (then t next) s a ≡ run (next x) s c
+  unfolding run
+  then-got t next a x c e = rw e
+
+  -- a field holds the number that its bytes spell
+  pub piece-bytes : AllBytes s → (w a v c : ℕ) → Piece s (field w) a v c → Bytes s a (bytesOf w v) c
+  unfolding run
+  piece-bytes bytes w a v c h = field-bytes s bytes w a v c (piece-read (field w) a v c h) .1
 
   -- ---- one piece at a place
   pub one-piece : {A : Type 0} (t : Format A) (a : ℕ) (x y : A) (c d : ℕ) → Piece s t a x c → Piece s t a y d → (x ≡ y) × (c ≡ d)

@@ -1,9 +1,9 @@
 -- Laws of readings: what a chain of steps that ends well went through. Assumes nothing.
-use mathlib.Core.Path.{_≡_, refl}
+use mathlib.Core.Path.{_≡_, refl, sym, ap}
 use mathlib.Core.Bool.{Bool, true, false, cond}
 use Prim.Native.Nat.{ℕ}
 use native.Mathlib.Omega.{arith}
-use Rattle.field.specs.Read.{Read, Read.got, Read.refused, bind}
+use Rattle.field.specs.Read.{Read, Read.got, Read.refused, bind, mapped}
 
 -- a refusal is no piece
 pub refused-got : {A B : Type 0} {n p c : ℕ} {x : A} → _≡_ {A = Read A} (refused n p) (got x c) → B
@@ -25,3 +25,14 @@ same-refused P {n} {q} {number} {place} e h =
     let a : n ≡ number = cc in
     let b : q ≡ place = cc in
     rw (← a, ← b) h
+
+-- what was read, seen through f
+pub mapped-got : {A B : Type 0} (f : A → B) (r : Read A) (y : B) (c : ℕ) → mapped f r ≡ got y c → (x : A) × (r ≡ got x c) × (f x ≡ y)
+mapped-got f (got x d) y c h =
+    let z : d ≡ c = cc in
+    (x, ap (λ (k : ℕ). got x k) z, cc)
+mapped-got f (refused number place) y c h = refused-got h
+
+pub mapped-refused : {A B : Type 0} (f : A → B) (r : Read A) (number place : ℕ) → mapped f r ≡ refused number place → r ≡ refused number place
+mapped-refused f (got x d) number place h = refused-got (sym h)
+mapped-refused {A} f (refused k q) number place h = same-refused (λ m p. _≡_ {A = Read A} (refused k q) (refused m p)) h refl

@@ -17,6 +17,7 @@ use Rattle.field.specs.declared.Cursor.{Cursor}
 use Rattle.field.proofs.Read.{through, refused-got}
 use Rattle.field.proofs.Spelling.{end}
 use Rattle.expression.specs.Expression.{Clock, spellWord, spellClock}
+use Rattle.expression.specs.Inner.Skipping.{HasExpr}
 use Rattle.expression.proofs.Lookup.{lookup-there}
 use Rattle.sheet.specs.declared.Found.{Found}
 use Rattle.sheet.specs.declared.Reading.{Reading}
@@ -28,7 +29,7 @@ use Rattle.sheet.proofs.Spelling.Rows.{same-got}
 use Rattle.sheet.proofs.Tables.Readings.{mapped-got, mapped-refused}
 use Rattle.sheet.proofs.Spelling.Sheets.{Opens, sheet-reads}
 use Rattle.sheet.specs.Locating.{clockPlace, Located, placeOf, listedClock, locatedIn}
-use Rattle.register.specs.Inner.Skipping.{HasExpr, HasClocks}
+use Rattle.register.specs.Inner.Skipping.{HasClocks}
 use Rattle.register.specs.declared.Closing.{Closing}
 use Rattle.register.specs.Closing.{closingOf, closingReply, closedBytes, Closes}
 use Rattle.register.specs.Quoting.{quotingOf, quotedFrom, quotedPart, Quotes}

@@ -12,13 +12,13 @@ use Rattle.field.specs.Spelling.{Bytes}
 use Rattle.field.proofs.Spelling.{part}
 use Rattle.expression.specs.Expression.{Clock, spell, spellClock}
 use Rattle.expression.proofs.Lookup.{lookup-below}
+use Rattle.expression.proofs.Tags.{has-tag}
 use Rattle.sheet.specs.Reader.{readSheet}
 use Rattle.sheet.specs.SheetRead.{SheetRead}
 use Rattle.sheet.proofs.Spelling.Sheets.{Opens}
 use Rattle.sheet.specs.Locating.{clockPlace, locatedIn}
 use Rattle.register.specs.Quoting.{quotingOf, quotedFrom, quotedPart}
 use Rattle.register.specs.Promise.{Quoted}
-use Rattle.register.proofs.Skips.{has-tag}
 use Rattle.sheet.proofs.Spelling.Places.{clock-bytes, expr-bytes, next-place, clock-at}
 use Rattle.register.proofs.Sheets.{opens-read}
 

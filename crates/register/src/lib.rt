@@ -1,54 +1,15 @@
 // Closing a clock, and quoting its expression.
 ghost use mathlib.Core.Path.{_≡_};
-ghost use Prim.Native.Nat.{ℕ};
 ghost use Rattle.field.specs.Field.{fieldOf};
 ghost use Rattle.field.specs.Read.{mapped};
 ghost use Rattle.sheet.specs.Sheet.{Sheet};
 ghost use Rattle.sheet.specs.Locating.{clockPlace, placeOf, locatedIn};
-ghost use Rattle.register.specs.Inner.Skipping.{ownBytes, partsOf, HasExpr, HasClocks};
+ghost use Rattle.register.specs.Inner.Skipping.{HasClocks};
 ghost use Rattle.register.specs.Closing.{Closes};
 ghost use Rattle.register.specs.Quoting.{Quotes, RepliesTo};
 use field::Cursor;
 use field::Field;
 use sheet::Reading;
-
-// How many bytes a node has besides its parts.
-fn own_bytes(tag: u8) -> usize
-    ensures { λ r. ⌜ r ≡ ownBytes tag ⌝ }
-{
-    match tag {
-        2 => 17,
-        3 => 1,
-        4 => 1,
-        _ => 3,
-    }
-}
-
-// How many parts it has.
-fn parts(tag: u8) -> usize
-    ensures { λ r. ⌜ r ≡ partsOf tag ⌝ }
-{
-    match tag {
-        3 => 1,
-        4 => 2,
-        _ => 0,
-    }
-}
-
-// The place past the expression that stands at `start`: `left` counts the expressions still to skip.
-fn past(s: &[u8], start: usize) -> usize
-    requires { ⌜ ((c : ℕ) × HasExpr (now s) start c) ⌝ }
-    ensures { λ r. ⌜ ((c : ℕ) → HasExpr (now (s .entry)) start c → r ≡ c) ⌝ }
-{
-    let mut at = start;
-    let mut left: usize = 1;
-    while 0 < left {
-        let tag = s[at];
-        at += own_bytes(tag);
-        left = left - 1 + parts(tag);
-    }
-    at
-}
 
 // Where clock `i` begins, from the place of the first clock on.
 fn locate(s: &[u8], first: usize, i: usize) -> usize
@@ -58,7 +19,7 @@ fn locate(s: &[u8], first: usize, i: usize) -> usize
     let mut at = first;
     let mut j: usize = 0;
     while j < i {
-        at = past(s, at + 1);
+        at = expression::past(s, at + 1);
         j += 1;
     }
     at
@@ -78,7 +39,7 @@ fn find(s: &[u8], i: usize) -> Field
                 return Field::Refused(reply::NO_CLOCK, 0);
             }
             let at = locate(s, found.clockrows, i);
-            let end = past(s, at + 1);
+            let end = expression::past(s, at + 1);
             Field::Got(at, Cursor { at: end })
         }
     }

@@ -4,7 +4,7 @@ use borrow.Author.Needs.{needs}
 use native.Mathlib.Omega.{arith}
 use native.Mathlib.Nat.{pos-of-ne-zero}
 use mathlib.Core.Path.{_≡_, ap, _∙_, sym}
-use Prim.Native.Nat.{ℕ, _-_, _<_}
+use Prim.Native.Nat.{ℕ, _+_, _-_, _<_}
 use denote.Ref.{now}
 use borrow.Fn.Kinds.{In}
 use borrow.Fn.PlainCycle.{Measures, is, falls, and}
@@ -13,6 +13,7 @@ use Rattle.field.specs.Read.{Read, Read.got}
 use Rattle.field.specs.Field.{fieldIn, fieldOf}
 use Rattle.envelope.specs.declared.Node.{Node}
 use Rattle.envelope.specs.Envelope.{Taken}
+use Rattle.expression.specs.Expression.{Tag, tagNumber, tagMost}
 use Rattle.expression.specs.Reader.{valueOf}
 use Rattle.expression.proofs.Answers.{answer, answer-taken, tag-refused, too-deep, of-word, of-declared, of-clock, first-refused, of-not, second-refused, of-on}
 use Rattle.expression.proofs.evaluate.Reads as evaluate
@@ -77,7 +78,7 @@ module _ (t : ℕ) where
   -- ---- what was read there
   tag-read :
       (c : Past-tag) →
-      fieldIn 1 1 6 unknown (now (start c .args .s)) (start c .args .start .at) ≡ got (c .before .tag .given .0 .0) (c .before .tag .given .0 .1 .0 .at)
+      fieldIn 1 1 (tagMost + 1) unknown (now (start c .args .s)) (start c .args .start .at) ≡ got (c .before .tag .given .0 .0) (c .before .tag .given .0 .1 .0 .at)
   tag-read c = sym (c .before .before .before .within .ensures) ∙ ap fieldOf (c .before .tag .given .1)
 
   -- the answer one level down
@@ -105,16 +106,19 @@ module _ (t : ℕ) where
   levels : (p : Past-first) → 0 < start (past-tag p) .args .depth
   levels p = pos-of-ne-zero (p .before .before .before .before .before .before .before .if1 .left)
 
-  not-word : (p : Past-first) → past-tag p .before .tag .given .0 .0 ≡ 1 → ⊥
+  not-word : (p : Past-first) → past-tag p .before .tag .given .0 .0 ≡ tagNumber Tag.word → ⊥
   not-word p = p .before .before .before .before .before .before .if2 .left
 
-  not-declared : (p : Past-first) → past-tag p .before .tag .given .0 .0 ≡ 2 → ⊥
+  not-declared : (p : Past-first) → past-tag p .before .tag .given .0 .0 ≡ tagNumber Tag.declared → ⊥
   not-declared p = p .before .before .before .before .before .if3 .left
 
-  not-clock : (p : Past-first) → past-tag p .before .tag .given .0 .0 ≡ 5 → ⊥
+  not-clock : (p : Past-first) → past-tag p .before .tag .given .0 .0 ≡ tagNumber Tag.clock → ⊥
   not-clock p = p .before .before .before .before .if4 .left
 
   -- ---- the needs
+  evaluate-add-within : evaluate-lts.Need-add-within (calls t) (evaluate-at t) evaluate.Post
+  evaluate-add-within c = search needs
+
   evaluate-within-requires : evaluate-lts.Need-within-requires (calls t) (evaluate-at t) evaluate.Post
   evaluate-within-requires c κs = search needs
 
@@ -224,6 +228,7 @@ pub +evaluate-spec : {M : Type 1} → statement M
 +evaluate-spec = close μ-evaluate λ t. evaluate-lts.spec (calls t)
     (evaluate-at t)
     evaluate.Post
+    (evaluate-add-within t)
     (evaluate-within-requires t)
     (evaluate-enum-known-number t)
     (evaluate-enum-known-tag t)

@@ -12,7 +12,7 @@ use Rattle.register.proofs.locate.Statement.{statement}
 use Rattle.register.proofs.locate.Tie as tie
 use Rattle.register.proofs.locate.Reads as reads
 use Rattle.register.proofs.locate.Lts as lts
-use Rattle.register.proofs.past.Reads as past-reads
+use Rattle.expression.proofs.past.Reads as past-reads
 
 abbrev Inv-loop : tie.InvT-loop
 Inv-loop s first i at₀ j₀ at j = (j ≤ i) × ((v : Sheet) → HasClocks s first i v → at ≡ clockPlace v j)

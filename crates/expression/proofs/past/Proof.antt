@@ -1,4 +1,4 @@
--- `register::past` meets its contract. The loop's invariant: up to where the expression ends, `left` expressions stand at `at`. The measure is what is left
+-- `past` meets its contract. The loop's invariant: up to where the expression ends, `left` expressions stand at `at`. The measure is what is left
 -- of the length. Assumes nothing.
 use mathlib.Core.Path.{_≡_, refl}
 use Prim.Native.Nat.{ℕ, _+_, _-_}
@@ -6,14 +6,14 @@ use native.Mathlib.Omega.{arith}
 use denote.Ref.{now}
 use lib.ListN.{length, getD}
 use borrow.Author.Needs.{needs}
-use Rattle.register.specs.Inner.Skipping.{HasExpr}
-use Rattle.register.proofs.Skips.{Left, own-some, left-start, left-within, left-next, left-none}
-use Rattle.register.proofs.past.Statement.{statement}
-use Rattle.register.proofs.past.Tie as tie
-use Rattle.register.proofs.past.Reads as reads
-use Rattle.register.proofs.past.Lts as lts
-use Rattle.register.proofs.own_bytes.Reads as own-bytes-reads
-use Rattle.register.proofs.parts.Reads as parts-reads
+use Rattle.expression.specs.Inner.Skipping.{HasExpr}
+use Rattle.expression.proofs.Skips.{Left, own-some, left-start, left-within, left-next, left-none}
+use Rattle.expression.proofs.past.Statement.{statement}
+use Rattle.expression.proofs.past.Tie as tie
+use Rattle.expression.proofs.past.Reads as reads
+use Rattle.expression.proofs.past.Lts as lts
+use Rattle.expression.proofs.own_bytes.Reads as own-bytes-reads
+use Rattle.expression.proofs.parts.Reads as parts-reads
 
 abbrev Inv-loop : tie.InvT-loop
 Inv-loop s start at₀ left₀ at left = (c : ℕ) → HasExpr s start c → Left s left at c
@@ -26,6 +26,9 @@ loop-holds c = λ d h. left-start h
 
 shared-slice-read-tag : tie.Need-shared-slice-read-tag Inv-loop μ-loop
 shared-slice-read-tag c = let e = c .before .before .before .before .pre in omega (arith, left-within (c .before .before .loop .inv (e .0) (e .1)))
+
+cast-tag : tie.Need-cast-tag Inv-loop μ-loop
+cast-tag c = record { fits = omega (arith, c .shared-slice-known2 .given (c .before .before .loop .at) .fits) }
 
 own-bytes-requires : tie.Need-own-bytes-requires Inv-loop μ-loop
 own-bytes-requires c κs = search needs
@@ -73,6 +76,7 @@ past-spec =
     μ-loop
     loop-holds
     shared-slice-read-tag
+    cast-tag
     own-bytes-requires
     add-at
     sub-left
