@@ -37,7 +37,7 @@ use Rattle.expression.proofs.Fields.{declared-worth, fields-read}
 use Rattle.expression.proofs.Tags.{same-tag, tag-read, tag-refused as tag-absent}
 use Rattle.expression.proofs.Format.{complete, behind}
 use Rattle.expression.proofs.Evaluated.{evaluate-taken}
-use Rattle.expression.proofs.Reader.{stands}
+use Rattle.expression.proofs.Reader.{accepted}
 
 -- the node of an expression at a with d levels left, or the refusal
 abbrev pub answer : List ℕ → List ℤ → List ℤ → ℕ → ℕ → Read Node
@@ -97,7 +97,7 @@ module _ (s : List ℕ) (ws cs : List ℤ) where
   pub answer-taken : Holds ws → Holds cs → (d a : ℕ) (x : Node) (c : ℕ) → answer s ws cs d a ≡ got x c → Taken (x .envelope)
   answer-taken hw hc d a x c h =
       let r = mapped-got nodeIn (exprAt d s (nodesIn ws) (nodesIn cs) a) x c h in
-      let t = stands s (nodesIn ws) (nodesIn cs) d a (r .0) c (r .1) in
+      let t = accepted s (nodesIn ws) (nodesIn cs) d a (r .0) c (r .1) in
       subst (λ (y : Node). Taken (y .envelope)) (r .2) (evaluate-taken (nodesIn ws) (nodesIn cs) (hw .taken) (hc .taken) (r .0 .expr) (r .0 .node) (t .value))
 
   -- no tag

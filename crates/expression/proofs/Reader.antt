@@ -1,5 +1,5 @@
 -- The reader of an expression, both ways: what it accepts is spelled there and has that node, and what is spelled there it accepts. Assumes nothing.
-use mathlib.Core.Path.{_≡_, refl, sym, ap, _∙_}
+use mathlib.Core.Path.{_≡_, refl, ap, _∙_}
 use mathlib.Core.List.{List, [], _∷_, _++_}
 use mathlib.Core.Option.{Option, none, some}
 use Prim.Native.Nat.{ℕ, zero, suc, max, _+_, _≤_}
@@ -7,13 +7,12 @@ use native.Mathlib.Omega.{arith}
 use lib.ListN.{length, getElem?}
 use Rattle.reply.specs.Numbers.{beyond}
 use Rattle.field.specs.Read.{Read.got}
-use Rattle.field.specs.Field.{fieldIn, signedIn}
-use Rattle.field.specs.Format.{Judged, Judged.passes, Judged.fails, Format, Piece, ranged, signedRanged}
+use Rattle.field.specs.Format.{Judged, Judged.passes, Judged.fails, Format, Piece}
 use Rattle.field.specs.Spelling.{bytesOf, AllBytes, Bytes}
 use Rattle.field.proofs.Spelling.{join}
 use Rattle.field.proofs.Fields.{fieldIn-bytes}
 use Rattle.field.proofs.SignedFields.{signedIn-bytes}
-use Rattle.field.proofs.Format.{read-piece, piece-read, piece-bytes, ranged-run, signed-run}
+use Rattle.field.proofs.Format.{read-piece, piece-read, piece-bytes, ranged-piece, signed-piece}
 use Rattle.envelope.specs.declared.Envelope.{Envelope}
 use Rattle.envelope.specs.declared.Node.{Node}
 use Rattle.envelope.specs.declared.Made.{Made}
@@ -49,17 +48,18 @@ found-passes x (some e) r h = (e, refl, cc)
 
 -- ---- what is accepted is spelled there
 module _ (s : List ℕ) (ws cs : List Node) where
-  pub record Stands (d a : ℕ) (y : Valued) (c : ℕ) : Type 0 where
+  pub record Accepted (d a : ℕ) (y : Valued) (c : ℕ) : Type 0 where
     pub shallow : depth (y .expr) ≤ d
     pub value : evaluate ws cs (y .expr) ≡ whole (y .node)
     pub bytes : AllBytes s → Bytes s a (spell (y .expr)) c
 
-  -- behind the tag t
+  -- the same of what follows the tag t, from b on
   record Follows (d : ℕ) (t : Tag) (b : ℕ) (r : Expr × Made) (c : ℕ) : Type 0 where
     pub shallow : depth (r .0) ≤ suc d
     pub value : evaluate ws cs (r .0) ≡ worthOf (r .1)
     pub bytes : AllBytes s → (a : ℕ) → Bytes s a (tagNumber t ∷ []) b → Bytes s a (spell (r .0)) c
 
+  -- an index, and two parts: what is made of them has that depth, that worth and that spelling
   named-follows : (d : ℕ) (t : Tag) (make : ℕ → Expr) (xs : List Node) → ((i : ℕ) → depth (make i) ≡ 1) → ((i : ℕ) → evaluate ws cs (make i) ≡ listed (getElem? xs i)) → ((i : ℕ) → spell (make i) ≡ tagNumber t ∷ bytesOf 2 i)
       → (b : ℕ) (r : Expr × Made) (c : ℕ) → Piece s (named make xs) b r c → Follows d t b r c
   named-follows d t make xs deep worth spelled b r c p =
@@ -70,7 +70,7 @@ module _ (s : List ℕ) (ws cs : List Node) where
         bytes = λ all a h. rw (spelled (p .0)) (join h (piece-bytes s all 2 b (p .0) c (p .1)));
       })
 
-  module _ (d : ℕ) (part : Format Valued) (ih : (b : ℕ) (y : Valued) (c : ℕ) → Piece s part b y c → Stands d b y c) where
+  module _ (d : ℕ) (part : Format Valued) (ih : (b : ℕ) (y : Valued) (c : ℕ) → Piece s part b y c → Accepted d b y c) where
     both-follows : (t : Tag) (make : Expr → Expr → Expr) (rule : Envelope → Envelope → Made)
         → ((x y : Expr) → depth (make x y) ≡ suc (max (depth x) (depth y))) → ((x y : Expr) → evaluate ws cs (make x y) ≡ joint rule (evaluate ws cs x) (evaluate ws cs y)) → ((x y : Expr) → spell (make x y) ≡ tagNumber t ∷ (spell x ++ spell y))
         → (b : ℕ) (r : Expr × Made) (c : ℕ) → Piece s (both part make rule) b r c → Follows d t b r c
@@ -91,10 +91,10 @@ module _ (s : List ℕ) (ws cs : List Node) where
         let q₁ = p .3 in
         let q₂ = q₁ .3 in
         let q₃ = q₂ .3 in
-        let k : signedIn lowerLeast lowerMost s b ≡ got (p .0) (p .1) = sym (signed-run lowerLeast lowerMost s b) ∙ piece-read s (signedRanged lowerLeast lowerMost) b (p .0) (p .1) (p .2) in
-        let K : signedIn upperLeast upperMost s (p .1) ≡ got (q₁ .0) (q₁ .1) = sym (signed-run upperLeast upperMost s (p .1)) ∙ piece-read s (signedRanged upperLeast upperMost) (p .1) (q₁ .0) (q₁ .1) (q₁ .2) in
-        let l : fieldIn 4 1 (lMost + 1) beyond s (q₁ .1) ≡ got (q₂ .0) (q₂ .1) = sym (ranged-run 4 1 (lMost + 1) beyond s (q₁ .1)) ∙ piece-read s (ranged 4 1 (lMost + 1) beyond) (q₁ .1) (q₂ .0) (q₂ .1) (q₂ .2) in
-        let n : fieldIn 4 1 (q₂ .0 + 1) beyond s (q₂ .1) ≡ got (q₃ .0) (q₃ .1) = sym (ranged-run 4 1 (q₂ .0 + 1) beyond s (q₂ .1)) ∙ piece-read s (ranged 4 1 (q₂ .0 + 1) beyond) (q₂ .1) (q₃ .0) (q₃ .1) (q₃ .2) in
+        let k = signed-piece lowerLeast lowerMost s b (p .0) (p .1) (p .2) in
+        let K = signed-piece upperLeast upperMost s (p .1) (q₁ .0) (q₁ .1) (q₁ .2) in
+        let l = ranged-piece 4 1 (lMost + 1) beyond s (q₁ .1) (q₂ .0) (q₂ .1) (q₂ .2) in
+        let n = ranged-piece 4 1 (q₂ .0 + 1) beyond s (q₂ .1) (q₃ .0) (q₃ .1) (q₃ .2) in
         rw (← q₃ .3 .0) (record {
           shallow = omega arith;
           value = declared-worth (p .0) (q₁ .0) (q₂ .0) (q₃ .0) (fields-read (p .0) (q₁ .0) (q₂ .0) (q₃ .0) s b (p .1) (q₁ .1) (q₂ .1) (q₃ .1) k K l n);
@@ -115,12 +115,12 @@ module _ (s : List ℕ) (ws cs : List Node) where
     parts-follow Tag.on b r c p = both-follows Tag.on Expr.on joinedOf (λ x y. refl) (λ x y. refl) (λ x y. refl) b r c p
     parts-follow Tag.clock b r c p = named-follows d Tag.clock Expr.clock cs (λ i. refl) (λ i. refl) (λ i. refl) b r c p
 
-  piece-stands : (d a : ℕ) (y : Valued) (c : ℕ) → Piece s (expression d ws cs) a y c → Stands d a y c
+  piece-accepted : (d a : ℕ) (y : Valued) (c : ℕ) → Piece s (expression d ws cs) a y c → Accepted d a y c
   unfolding expression
-  piece-stands zero a y c p = fails-passes (p .2)
-  piece-stands (suc d) a y c p =
+  piece-accepted zero a y c p = fails-passes (p .2)
+  piece-accepted (suc d) a y c p =
       let q = p .1 in
-      let f = parts-follow d (expression d ws cs) (piece-stands d) (q .0) (q .1) (p .0) c (q .3) in
+      let f = parts-follow d (expression d ws cs) (piece-accepted d) (q .0) (q .1) (p .0) c (q .3) in
       let k = kept-passes (p .0 .0) (p .0 .1) y (p .2) in
       record {
         shallow = rw (← k .0) (f .shallow);
@@ -128,13 +128,13 @@ module _ (s : List ℕ) (ws cs : List Node) where
         bytes = λ all. rw (← k .0) (f .bytes all a (tag-bytes s all a (q .0) (q .1) (piece-read s tag a (q .0) (q .1) (q .2))));
       }
 
-  pub stands : (d a : ℕ) (y : Valued) (c : ℕ) → exprAt d s ws cs a ≡ got y c → Stands d a y c
+  pub accepted : (d a : ℕ) (y : Valued) (c : ℕ) → exprAt d s ws cs a ≡ got y c → Accepted d a y c
   unfolding exprAt
-  stands d a y c h = piece-stands d a y c (read-piece s (expression d ws cs) a y c h)
+  accepted d a y c h = piece-accepted d a y c (read-piece s (expression d ws cs) a y c h)
 
 pub reads : (s : List ℕ) → AllBytes s → (ws cs : List Node) (d a : ℕ) (y : Valued) (c : ℕ) → exprAt d s ws cs a ≡ got y c → Spelled s ws cs d a (y .expr) (y .node) c
 reads s all ws cs d a y c h =
-    let t = stands s ws cs d a y c h in
+    let t = accepted s ws cs d a y c h in
     record { shallow = t .shallow; value = t .value; bytes = t .bytes all }
 
 -- ---- and what is spelled there is accepted

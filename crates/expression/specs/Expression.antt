@@ -29,6 +29,7 @@ tagNumber Tag.clock = 5
 abbrev pub tagMost : ℕ
 tagMost = 5
 
+-- an expression, one way for each tag
 pub data Expr : Type 0 where
   word : ℕ → Expr
   declared : ℤ → ℤ → ℕ → ℕ → Expr

@@ -19,6 +19,7 @@ pub record Valued : Type 0 where
   pub expr : Expr
   pub node : Node
 
+-- every tag
 abbrev pub tags : List Tag
 tags = Tag.word ∷ (Tag.declared ∷ (Tag.negated ∷ (Tag.on ∷ (Tag.clock ∷ []))))
 

@@ -222,3 +222,10 @@ unfolding run signedIn signedAt
 signed-run low high s a =
     bind-same (fieldAt 4 s a) (fieldAt 4 s a) _ _ refl (λ v c. settled-cond (betweenZ low high (signed v)) (passes (signed v)) beyond c a)
     ∙ sym (bind-assoc (fieldAt 4 s a) (λ v c. got (signed v) c) λ z c. cond (betweenZ low high z) (got z c) (refused beyond a))
+
+-- such a piece, as the code reads it
+pub ranged-piece : (w low high fault : ℕ) (s : List ℕ) (a v c : ℕ) → Piece s (ranged w low high fault) a v c → fieldIn w low high fault s a ≡ got v c
+ranged-piece w low high fault s a v c h = sym (ranged-run w low high fault s a) ∙ piece-read s (ranged w low high fault) a v c h
+
+pub signed-piece : (low high : ℤ) (s : List ℕ) (a : ℕ) (z : ℤ) (c : ℕ) → Piece s (signedRanged low high) a z c → signedIn low high s a ≡ got z c
+signed-piece low high s a z c h = sym (signed-run low high s a) ∙ piece-read s (signedRanged low high) a z c h
