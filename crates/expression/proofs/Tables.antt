@@ -12,8 +12,7 @@ use mir.Val.{SFits, toZ, ofZ}
 use mir.Facts.{toZ-ofZ}
 use Rattle.whole.proofs.Bridge.{sfits-reads, sfits-shows}
 use Rattle.envelope.specs.declared.Node.{Node}
-use Rattle.expression.specs.Table.{flat, flats}
-use Rattle.expression.specs.Inner.Nodes.{nodeFrom, nodesIn, nodeAt, AllTaken, Holds}
+use Rattle.expression.specs.Inner.Nodes.{perNode, HasNode, flat, flats, nodeFrom, nodesIn, nodeAt, AllTaken, Holds}
 
 -- ---- the nodes of a slice
 
@@ -31,7 +30,7 @@ rest-at : (k K l n : ℤ) (t : List ℤ) (i j : ℕ) → i ≡ suc (suc (suc (su
 rest-at k K l n t i j e = ap (λ (x : ℕ). getD (k ∷ (K ∷ (l ∷ (n ∷ t)))) x (pos 0)) e
 
 -- the node at an index is made of the four numbers there
-pub node-at : (t : List ℤ) (i : ℕ) → 4 * i + 3 < length t → getElem? (nodesIn t) i ≡ some (nodeAt t i)
+pub node-at : (t : List ℤ) (i : ℕ) → HasNode t i → getElem? (nodesIn t) i ≡ some (nodeAt t i)
 unfolding nodesIn
 node-at [] i h = absurd (omega arith)
 node-at (k ∷ []) i h = absurd (omega arith)
@@ -49,7 +48,7 @@ node-at (k ∷ (K ∷ (l ∷ (n ∷ t)))) (suc i) h =
     same p q r s = λ i. nodeFrom (p i) (q i) (r i) (s i)
 
 -- a slice of m nodes, with one more
-pub nodes-more : (m : ℕ) (t : List ℤ) (x : Node) → length t ≡ 4 * m → nodesIn (t ++ flat x) ≡ nodesIn t ++ (x ∷ [])
+pub nodes-more : (m : ℕ) (t : List ℤ) (x : Node) → length t ≡ perNode * m → nodesIn (t ++ flat x) ≡ nodesIn t ++ (x ∷ [])
 unfolding nodesIn
 nodes-more m [] x h = refl
 nodes-more m (k ∷ []) x h = absurd (omega arith)
@@ -65,7 +64,7 @@ unfolding flats nodesIn
 flats-back [] = refl
 flats-back (x ∷ xs) = ap {B = List Node} (λ r. x ∷ r) (flats-back xs)
 
-pub flats-length : (xs : List Node) → length (flats xs) ≡ 4 * length xs
+pub flats-length : (xs : List Node) → length (flats xs) ≡ perNode * length xs
 unfolding flats
 flats-length [] = refl
 flats-length (x ∷ xs) = omega (arith, flats-length xs)
@@ -84,7 +83,7 @@ flats-holds xs t = record { flat-is = ap flats (flats-back xs); taken = subst Al
 abbrev pub Unsigned : List ℤ → ℕ → Type 0
 Unsigned t j = getD t j (pos 0) ≡ pos (natAbs (getD t j (pos 0)))
 
-unsigned-at : (xs : List Node) (i : ℕ) → i < length xs → Unsigned (flats xs) (4 * i + 2) × Unsigned (flats xs) (4 * i + 3)
+unsigned-at : (xs : List Node) (i : ℕ) → i < length xs → Unsigned (flats xs) (perNode * i + 2) × Unsigned (flats xs) (perNode * i + 3)
 unfolding flats
 unsigned-at [] i h = absurd (omega arith)
 unsigned-at (x ∷ xs) zero h = (refl, refl)
@@ -94,9 +93,9 @@ unsigned-at (x ∷ xs) (suc i) h =
     let q : 4 * suc i + 3 ≡ suc (suc (suc (suc (4 * i + 3)))) = omega arith in
     (subst (λ (j : ℕ). Unsigned (flats (x ∷ xs)) j) (sym p) (r .0), subst (λ (j : ℕ). Unsigned (flats (x ∷ xs)) j) (sym q) (r .1))
 
-pub holds-unsigned : (t : List ℤ) (i : ℕ) → Holds t → 4 * i + 3 < length t → Unsigned t (4 * i + 2) × Unsigned t (4 * i + 3)
+pub holds-unsigned : (t : List ℤ) (i : ℕ) → Holds t → HasNode t i → Unsigned t (perNode * i + 2) × Unsigned t (perNode * i + 3)
 holds-unsigned t i h l =
-    subst (λ (x : List ℤ). Unsigned x (4 * i + 2) × Unsigned x (4 * i + 3)) (h .flat-is)
+    subst (λ (x : List ℤ). Unsigned x (perNode * i + 2) × Unsigned x (perNode * i + 3)) (h .flat-is)
     (unsigned-at (nodesIn t) i (omega (arith, nodes-many t)))
 
 -- ---- a number of 32 bits, in 64

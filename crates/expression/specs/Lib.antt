@@ -3,7 +3,6 @@ pub mod Stands
 pub mod Evaluate
 pub mod Format
 pub mod Reader
-pub mod Table
 pub mod Spelled
 pub mod Blame
 pub mod Promise

@@ -7,8 +7,7 @@ ghost use Rattle.envelope.specs.Envelope.{Taken};
 ghost use Rattle.expression.specs.Evaluate.{worthOf};
 ghost use Rattle.field.specs.Read.{mapped};
 ghost use Rattle.expression.specs.Reader.{exprAt, nodeIn, valueOf};
-ghost use Rattle.expression.specs.Table.{flat};
-ghost use Rattle.expression.specs.Inner.Nodes.{Holds, nodesIn, nodeAt};
+ghost use Rattle.expression.specs.Inner.Nodes.{perNode, HasNode, flat, Holds, nodesIn, nodeAt};
 ghost use Rattle.expression.specs.Inner.Parts.{placed, listedAt, declaredAt};
 ghost use Rattle.expression.specs.Inner.Skipping.{ownBytes, partsOf, HasExpr};
 use envelope::Envelope;
@@ -32,6 +31,9 @@ const CLOCK: usize = 5;
 // The largest of them.
 const TAG_MOST: usize = CLOCK;
 
+// How many numbers a node has in a table.
+pub const PER_NODE: usize = 4;
+
 // A node and the cursor past it; or a refusal's number and place.
 pub enum Value {
     Got(Node, Cursor),
@@ -52,10 +54,10 @@ fn place(made: Made, c: Cursor, tag: usize) -> Value
 
 // The node at index i of a table.
 pub fn entry(table: &[i32], i: usize) -> Node
-    requires { ⌜ (4 * i + 3 < length (now table)) × Holds (now table) ⌝ }
+    requires { ⌜ (HasNode (now table) i) × Holds (now table) ⌝ }
     ensures { λ r. ⌜ r ≡ nodeAt (now (table .entry)) i ⌝ }
 {
-    let at = 4 * i;
+    let at = PER_NODE * i;
     Node {
         envelope: Envelope {
             k: table[at] as i64,
@@ -68,11 +70,11 @@ pub fn entry(table: &[i32], i: usize) -> Node
 
 // The node, stored at index i of a table.
 pub fn store(x: Node, table: &mut [i32], i: usize)
-    requires { ⌜ (4 * i + 3 < length (now table)) × Taken (x .envelope) ⌝ }
-    ensures { λ _. ⌜ now (table .exit) ≡ sets (now (table .entry)) (4 * i) (flat x) ⌝ }
+    requires { ⌜ (HasNode (now table) i) × Taken (x .envelope) ⌝ }
+    ensures { λ _. ⌜ now (table .exit) ≡ sets (now (table .entry)) (perNode * i) (flat x) ⌝ }
 {
     let e = x.envelope;
-    let at = 4 * i;
+    let at = PER_NODE * i;
     let k = e.k as i32;
     let top = e.K as i32;
     let l = e.l as i32;
@@ -88,7 +90,7 @@ fn listed(c: Cursor, s: &[u8], table: &[i32]) -> Value
     requires { ⌜ Holds (now table) ⌝ }
     ensures { λ r. ⌜ valueOf r ≡ listedAt (now (s .entry)) (now (table .entry)) (c .at) ⌝ }
 {
-    match c.within(s, 2, 0, table.len() / 4, reply::ABSENT) {
+    match c.within(s, 2, 0, table.len() / PER_NODE, reply::ABSENT) {
         Field::Refused(number, at) => Value::Refused(number, at),
         Field::Got(i, d) => Value::Got(entry(table, i), d),
     }

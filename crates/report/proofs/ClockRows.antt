@@ -9,7 +9,7 @@ use lib.IntN.{ℤ}
 use lib.ListN.{length, getD, getElem?, drop}
 use lib.Seq.{drop-cons, drop-length}
 use Rattle.envelope.specs.declared.Node.{Node}
-use Rattle.expression.specs.Inner.Nodes.{nodesIn, nodeAt}
+use Rattle.expression.specs.Inner.Nodes.{HasNode, nodesIn, nodeAt}
 use Rattle.expression.proofs.Lookup.{none-some}
 use Rattle.expression.proofs.Tables.{node-at}
 use Rattle.line.specs.Text.{lineOf}
@@ -32,7 +32,7 @@ module _ (t : List ℤ) (ss : List ℕ) where
   pub clocks-next : Many t ss → (i : ℕ) → i < length ss → (x : Node) → x ≡ nodeAt t i → clocksFrom i ≡ lineOf (letters "clock") (clockFields i (getD ss i 0) (x .envelope)) ++ clocksFrom (i + 1)
   unfolding clockLines
   clocks-next m i h x e =
-      let there : 4 * i + 3 < length t = omega (arith, m .many) in
+      let there : HasNode t i = omega (arith, m .many) in
       rw (add-one i, drop-cons ss i 0 h, drop-entry (nodesIn t) i x (node-at t i there ∙ ap some (sym e)))
 
   pub clocks-none : (i : ℕ) → i ≡ length ss → clocksFrom i ≡ []

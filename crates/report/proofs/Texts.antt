@@ -10,7 +10,7 @@ use Rattle.field.specs.Read.{Read.got, Read.refused}
 use Rattle.field.specs.Spelling.{AllBytes}
 use Rattle.envelope.specs.declared.Node.{Node}
 use Rattle.link.specs.declared.Row.{Row}
-use Rattle.expression.specs.Inner.Nodes.{nodesIn}
+use Rattle.expression.specs.Inner.Nodes.{perNode, nodesIn}
 use Rattle.sheet.specs.declared.Found.{Found}
 use Rattle.sheet.specs.declared.Rooms.{Rooms}
 use Rattle.sheet.specs.Reader.{readSheet}
@@ -59,7 +59,7 @@ module _ (s text : List ℕ) where
 
   module _ (bytes : AllBytes s) (o : SheetRead) (c : ℕ) (read : readSheet s ≡ got o c) (f : Found) (f-is : foundOf o ≡ f) (t : List ℤ) (ss es : List ℕ) (tabled : Tabled (readSheet s) t ss es) where
     abbrev readText : List ℕ
-    readText = tableText (take (4 * f .clocks) t) (take (f .clocks) ss) (take (2 * f .links) es)
+    readText = tableText (take (perNode * f .clocks) t) (take (f .clocks) ss) (take (2 * f .links) es)
 
     text-is : readText ≡ sheetText o
     text-is =

@@ -8,6 +8,7 @@ ghost use Rattle.line.specs.Letters.{letters};
 ghost use Rattle.report.specs.Listing.{stateWord, verdictWord, envelopeFields, clockFields, linkFields, roomFields, clockLines, fitted, over, ListsInto};
 ghost use Rattle.report.specs.Inner.Parts.{Many, LinksPut, tableText};
 use envelope::Envelope;
+use expression::PER_NODE;
 use expression::entry;
 use line::put_byte;
 use line::put_bytes;
@@ -170,7 +171,7 @@ pub fn list(sheet: &[u8], text: &mut [u8]) -> Listed
         Reading::Got(f) => {
             let m = f.clocks;
             let n = f.links;
-            let nodes = 4 * m;
+            let nodes = PER_NODE * m;
             let pairs = 2 * n;
             list_whole(&table[..nodes], &states[..m], &ends[..pairs], n, text)
         }

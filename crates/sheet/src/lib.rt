@@ -9,7 +9,7 @@ ghost use Rattle.link.specs.Link.{sizeIn};
 ghost use Rattle.field.specs.Read.{mapped};
 ghost use Rattle.expression.specs.Reader.{valueOf};
 ghost use Rattle.expression.specs.Evaluate.{wordNode};
-ghost use Rattle.expression.specs.Inner.Nodes.{Holds, nodesIn};
+ghost use Rattle.expression.specs.Inner.Nodes.{perNode, Holds, nodesIn};
 ghost use Rattle.envelope.specs.Envelope.{Taken};
 ghost use Rattle.envelope.specs.Word.{onesIn};
 ghost use Rattle.sheet.specs.Sheet.{clocksMost, linksMost};
@@ -18,6 +18,7 @@ ghost use Rattle.sheet.specs.WorkOut.{refusalOf, clockNumbers, linkNumbe
 ghost use Rattle.sheet.specs.Inner.Sections.{WordRows, ClockRows, markedOf, markedAt, endsOf, wordBits, readingOf, Tabled, rowAt, Ready, LinkRows, linksOf, ToEnd, FromClocks, linkIn, rowsIn, roomsOver, roomsWith, Given};
 use envelope::Envelope;
 use envelope::Node;
+use expression::PER_NODE;
 use expression::Value;
 use expression::entry;
 use expression::evaluate;
@@ -161,7 +162,7 @@ fn clock_rows(
     let mut c = start;
     let mut i: usize = 0;
     while i < n {
-        let end = 4 * i;
+        let end = PER_NODE * i;
         match clock(c, s, words, &table[..end]) {
             Marked::Refused(number, place) => {
                 return Field::Refused(number, place);
@@ -304,7 +305,7 @@ pub fn read(s: &[u8], table: &mut [i32], states: &mut [u8], ends: &mut [u8]) -> 
     match read_words(Cursor { at: 0 }, s, &mut list) {
         Field::Refused(number, place) => Reading::Refused(number, place),
         Field::Got(w, c) => {
-            let end = 4 * w;
+            let end = PER_NODE * w;
             read_from_clocks(c, s, &list[..end], table, states, ends)
         }
     }
@@ -347,7 +348,7 @@ fn store_clock(x: Node, list: &mut [i64], i: usize)
 
 // The numbers of m clocks are left in `list`.
 fn fill_clocks(table: &[i32], m: usize, list: &mut [i64])
-    requires { ⌜ Holds (now table) × (length (now table) ≡ 4 * m) × (m ≤ clocksMost) × (4 * m ≤ length (now list)) ⌝ }
+    requires { ⌜ Holds (now table) × (length (now table) ≡ perNode * m) × (m ≤ clocksMost) × (perNode * m ≤ length (now list)) ⌝ }
     ensures { λ _. ⌜ now (list .exit) ≡ flatten clockNumbers (nodesIn (now (table .entry))) ++ drop (4 * m) (now (list .entry)) ⌝ }
 {
     let mut i: usize = 0;
@@ -484,7 +485,7 @@ pub fn work_out(sheet: &[u8], clocks: &mut [i64], links: &mut [i64]) -> Reply
         Reading::Got(f) => {
             let m = f.clocks;
             let n = f.links;
-            let nodes = 4 * m;
+            let nodes = PER_NODE * m;
             let pairs = 2 * n;
             give(
                 &table[..nodes],

@@ -13,7 +13,7 @@ use mir.Syntax.{w32, w64}
 use mir.Val.{SFits, Fits, toZ, ofZ}
 use mir.Facts.{toZ-ofZ}
 use Rattle.envelope.specs.declared.Node.{Node}
-use Rattle.expression.specs.Inner.Nodes.{nodeFrom}
+use Rattle.expression.specs.Inner.Nodes.{perNode, nodeFrom}
 use Rattle.expression.proofs.Tables.{holds-unsigned, wide, wide-held}
 use Rattle.expression.proofs.entry.Statement.{statement}
 use Rattle.expression.proofs.entry.Tie as tie
@@ -31,16 +31,16 @@ module _ (x : ℤ) (f : SFits w32 x) where
   unsigned-held = ap natAbs (toZ-ofZ f)
 
 -- ---- the four numbers, as the machine holds them
-k-fits : (c : tie.After-t6) → SFits w32 (getD (now (c .before .args .table)) (4 * c .before .args .i) (pos 0))
+k-fits : (c : tie.After-t6) → SFits w32 (getD (now (c .before .args .table)) (perNode * c .before .args .i) (pos 0))
 k-fits c = search needs
 
-K-fits : (c : tie.After-t11) → SFits w32 (getD (now (c .before .before .args .table)) (4 * c .before .before .args .i + 1) (pos 0))
+K-fits : (c : tie.After-t11) → SFits w32 (getD (now (c .before .before .args .table)) (perNode * c .before .before .args .i + 1) (pos 0))
 K-fits c = search needs
 
-l-fits : (c : tie.After-t16) → SFits w32 (getD (now (c .before .before .before .args .table)) (4 * c .before .before .before .args .i + 2) (pos 0))
+l-fits : (c : tie.After-t16) → SFits w32 (getD (now (c .before .before .before .args .table)) (perNode * c .before .before .before .args .i + 2) (pos 0))
 l-fits c = search needs
 
-n-fits : (c : tie.After-t21) → SFits w32 (getD (now (c .before .before .before .before .args .table)) (4 * c .before .before .before .before .args .i + 3) (pos 0))
+n-fits : (c : tie.After-t21) → SFits w32 (getD (now (c .before .before .before .before .args .table)) (perNode * c .before .before .before .before .args .i + 3) (pos 0))
 n-fits c = search needs
 
 four : {k K : ℤ} (l n : ℤ) {k′ K′ : ℤ} {l′ n′ : ℕ} → k′ ≡ k → K′ ≡ K → l′ ≡ natAbs l → n′ ≡ natAbs n → _≡_ {A = Node} (record { envelope = record { k = k′; K = K′; l = l′; n = n′ } }) (nodeFrom k K l n)
@@ -102,7 +102,7 @@ returns : tie.Need-returns
 returns c =
     let a = c .before .before .before .before .args in
     let t = now (a .table) in
-    four (getD t (4 * a .i + 2) (pos 0)) (getD t (4 * a .i + 3) (pos 0)) (wide-held _ (k-fits (c .before .before .before))) (wide-held _ (K-fits (c .before .before))) (unsigned-held _ (l-fits (c .before))) (unsigned-held _ (n-fits c))
+    four (getD t (perNode * a .i + 2) (pos 0)) (getD t (perNode * a .i + 3) (pos 0)) (wide-held _ (k-fits (c .before .before .before))) (wide-held _ (K-fits (c .before .before))) (unsigned-held _ (l-fits (c .before))) (unsigned-held _ (n-fits c))
 
 pub entry-spec : {M : Type 1} → statement M
 entry-spec =

@@ -19,7 +19,7 @@ use Rattle.envelope.specs.declared.Node.{Node}
 use Rattle.envelope.specs.Limits.{lMost}
 use Rattle.envelope.specs.Envelope.{Limits}
 use Rattle.envelope.proofs.Held.{k-up, k-down, K-up, K-down, k-held, K-held, n-small}
-use Rattle.expression.specs.Table.{flat}
+use Rattle.expression.specs.Inner.Nodes.{perNode, flat}
 use Rattle.expression.proofs.store.Statement.{statement}
 use Rattle.expression.proofs.store.Tie as tie
 
@@ -80,7 +80,7 @@ mul-n : tie.Need-mul-n
 mul-n c = search needs
 
 slice-set-from-n : tie.Need-slice-set-from-n
-slice-set-from-n c = search needs
+slice-set-from-n c = simp length-set (omega arith)
 
 same-length : tie.Need-same-length
 same-length c = search needs
@@ -100,7 +100,7 @@ returns c =
     let a = c .before .before .before .before .before .before .before in
     let e = a .args .x .envelope in
     let t = a .pre .1 in
-    stored (now (a .args .table)) (4 * a .args .i) _ _ _ _ (a .args .x) (toZ-ofZ (k-narrow e (t .limits)) ∙ k-held e (t .limits)) (toZ-ofZ (K-narrow e (t .limits)) ∙ K-held e (t .limits)) (small-narrow (e .l) (t .limits .l-most)) (small-narrow (e .n) (n-small e t))
+    stored (now (a .args .table)) (perNode * a .args .i) _ _ _ _ (a .args .x) (toZ-ofZ (k-narrow e (t .limits)) ∙ k-held e (t .limits)) (toZ-ofZ (K-narrow e (t .limits)) ∙ K-held e (t .limits)) (small-narrow (e .l) (t .limits .l-most)) (small-narrow (e .n) (n-small e t))
 
 pub store-spec : {M : Type 1} → statement M
 store-spec =

@@ -7,6 +7,7 @@ use lib.ListN.{length}
 use lib.Seq.{length-take-le}
 use Rattle.field.specs.Read.{Read.got}
 use Rattle.field.specs.Spelling.{AllBytes}
+use Rattle.expression.specs.Inner.Nodes.{perNode}
 use Rattle.sheet.specs.Sheet.{clocksMost, linksMost}
 use Rattle.sheet.specs.Reader.{readSheet}
 use Rattle.sheet.specs.SheetRead.{SheetRead}
@@ -31,7 +32,7 @@ module _ (c : tie.After-known-told2) where
   few-links : c .before .f .given .0 .0 .links ≤ linksMost
   few-links = links-few _ bytes (whole .0) (whole .1) (whole .2) _ (whole .3)
 
-  table-fits : 4 * c .before .f .given .0 .0 .clocks ≤ length (c .before .before .before .before .before .before .read .last .1 .0)
+  table-fits : perNode * c .before .f .given .0 .0 .clocks ≤ length (c .before .before .before .before .before .before .read .last .1 .0)
   table-fits = omega (arith, few, c .before .before .before .before .before .before .read .kept .1 .0)
 
   states-fit : c .before .f .given .0 .0 .clocks ≤ length (c .before .before .before .before .before .before .read .last .1 .1 .0)

@@ -14,9 +14,5 @@ put-envelope-spec =
     (λ c κs. tt)
     (λ c κs. tt)
     (λ c. search needs)
-    (λ c.
-    -- where K was read, where k was, and the start
-    let upper = c .before .before .before .before .before .before .before .before .before .before .before in
-    let lower = upper .before .before .before .before .before in
-    let s = lower .before .before .before in
-    cc (told (s .args .e .k) (let g = lower .struct-told .given in omega arith), told (s .args .e .K) (let g = upper .struct-told2 .given in omega arith))))
+    (λ c. let s = c .before .before .before .before .before .before .before .before .before .before .before .before .before .before .before .before .before .before .before in
+    cc (told (s .args .e .k) (let g = c .before .before .before .before .before .before .before .before .before .before .before .before .before .before .before .before .struct-told .given in omega arith), told (s .args .e .K) (let g = c .before .before .before .before .before .before .before .before .before .before .before .struct-told2 .given in omega arith))))

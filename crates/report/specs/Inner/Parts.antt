@@ -5,7 +5,7 @@ use Prim.Native.Nat.{ℕ, _*_, _≤_}
 use lib.IntN.{ℤ}
 use lib.ListN.{length}
 use Rattle.link.specs.declared.Row.{Row}
-use Rattle.expression.specs.Inner.Nodes.{nodesIn, Holds}
+use Rattle.expression.specs.Inner.Nodes.{perNode, nodesIn, Holds}
 use Rattle.sheet.specs.Sheet.{clocksMost}
 use Rattle.sheet.specs.Inner.Sections.{linksOf, rowsIn, roomsOver}
 use Rattle.line.specs.Text.{Put}
@@ -15,7 +15,7 @@ use Rattle.report.specs.Listing.{linkLines, wholeText}
 -- a node and a state for each clock
 pub record Many (t : List ℤ) (ss : List ℕ) : Type 0 where
   pub table : Holds t
-  pub many : length t ≡ 4 * length ss
+  pub many : length t ≡ perNode * length ss
   pub few : length ss ≤ clocksMost
 
 -- the links' lines are put, and the two rooms are the sums over them

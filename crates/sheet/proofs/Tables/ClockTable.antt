@@ -18,8 +18,7 @@ use Rattle.envelope.specs.Envelope.{Taken}
 use Rattle.expression.specs.Expression.{depthMost}
 use Rattle.expression.specs.Reader.{exprAt, nodeIn}
 use Rattle.expression.specs.Format.{Valued}
-use Rattle.expression.specs.Table.{flat}
-use Rattle.expression.specs.Inner.Nodes.{nodesIn, Holds}
+use Rattle.expression.specs.Inner.Nodes.{perNode, HasNode, flat, nodesIn, Holds}
 use Rattle.expression.proofs.Answers.{answer, answer-taken}
 use Rattle.sheet.specs.Sheet.{clocksMost}
 use Rattle.sheet.specs.Reader.{rowsAt, sectionAt, clockAt}
@@ -73,7 +72,7 @@ kept-none s ws n t ss a = record { nodes = stored-none (clockAt s ws) nodeOfCloc
 
 module _ (s : List ℕ) (ws : List Node) (n i : ℕ) (t : List ℤ) (ss : List ℕ) (a₀ a : ℕ) (h : Kept s ws n i t ss a₀ a) where
   -- the next clock, after those of the part of the table that is lent
-  next-is : (r : Read Mark) → markedAt s ws (nodesIn (take (4 * i) t)) a ≡ r → mapped markOf (clockAt s ws (h .nodes .on .so-far) a) ≡ r
+  next-is : (r : Read Mark) → markedAt s ws (nodesIn (take (perNode * i) t)) a ≡ r → mapped markOf (clockAt s ws (h .nodes .on .so-far) a) ≡ r
   next-is r e =
       sym (mark-is s ws (h .nodes .on .so-far) a)
       ∙ ap (λ (xs : List Node). markedAt s ws xs a) (sym (stored-nodes (clockAt s ws) nodeOfClock n i t a₀ a (h .nodes)))
@@ -82,11 +81,11 @@ module _ (s : List ℕ) (ws : List Node) (n i : ℕ) (t : List ℤ) (ss : List �
   module _ (more : i < n) where
     pub kept-more :
         (m : Mark) (c : ℕ) (t′ : List ℤ) (ss′ : List ℕ) →
-        markedAt s ws (nodesIn (take (4 * i) t)) a ≡ got m c →
+        markedAt s ws (nodesIn (take (perNode * i) t)) a ≡ got m c →
         Taken (m .node .envelope) →
-        4 * i + 3 < length t →
+        HasNode t i →
         i < length ss →
-        t′ ≡ sets t (4 * i) (flat (m .node)) →
+        t′ ≡ sets t (perNode * i) (flat (m .node)) →
         ss′ ≡ set ss i (m .state) →
         Kept s ws n (i + 1) t′ ss′ a₀ c
     unfolding stored-more reached-more
@@ -99,7 +98,7 @@ module _ (s : List ℕ) (ws : List Node) (n i : ℕ) (t : List ℤ) (ss : List �
           states = rw (e, map-more stateOfRow (h .nodes .on .so-far) (r .0), y, ← h .states, add-one) (state-more ss i (m .state) k);
         }
 
-    pub kept-refused : (number place : ℕ) → markedAt s ws (nodesIn (take (4 * i) t)) a ≡ refused number place → rowsAt (clockAt s ws) n [] a₀ ≡ refused number place
+    pub kept-refused : (number place : ℕ) → markedAt s ws (nodesIn (take (perNode * i) t)) a ≡ refused number place → rowsAt (clockAt s ws) n [] a₀ ≡ refused number place
     kept-refused number place p =
         reached-refused (clockAt s ws) n i a₀ a (h .nodes .on) more number place
         (mapped-refused markOf (clockAt s ws (h .nodes .on .so-far) a) number place (next-is (refused number place) p))

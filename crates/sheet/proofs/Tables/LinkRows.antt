@@ -27,7 +27,7 @@ use Rattle.link.specs.declared.Verdict.the-variants.{Accepted, Rates, Early}
 use Rattle.link.specs.declared.Row.{Row}
 use Rattle.link.specs.Link.{sizeOf, verdictOf, verdictNumber, sizeIn, stateOf, openSizeOf, Passes}
 use Rattle.link.proofs.Links.{size-least, accepted-is}
-use Rattle.expression.specs.Inner.Nodes.{nodesIn, nodeAt, AllTaken, Holds}
+use Rattle.expression.specs.Inner.Nodes.{HasNode, nodesIn, nodeAt, AllTaken, Holds}
 use Rattle.expression.proofs.Tables.{node-at}
 use Rattle.sheet.specs.Sheet.{Link}
 use Rattle.sheet.specs.Reader.{linkAt}
@@ -102,13 +102,13 @@ number-small Rates = omega arith
 number-small Early = omega arith
 
 -- ---- a row, from the entries of the table
-pub entry-taken : (t : List ℤ) (i : ℕ) (x : Node) → Holds t → 4 * i + 3 < length t → x ≡ nodeAt t i → Taken (x .envelope)
+pub entry-taken : (t : List ℤ) (i : ℕ) (x : Node) → Holds t → HasNode t i → x ≡ nodeAt t i → Taken (x .envelope)
 entry-taken t i x h l p = subst (λ (y : Node). Taken (y .envelope)) (sym p) (h .taken i (nodeAt t i) (node-at t i l))
 
 pub row-is :
     (t : List ℤ) (ss : List ℕ) (l : Link) (x y : Node) (v : Verdict) (state : ℕ) →
-    4 * l .producer + 3 < length t →
-    4 * l .consumer + 3 < length t →
+    HasNode t (l .producer) →
+    HasNode t (l .consumer) →
     x ≡ nodeAt t (l .producer) →
     y ≡ nodeAt t (l .consumer) →
     v ≡ verdictOf (x .envelope) (y .envelope) →

@@ -16,8 +16,7 @@ use Rattle.field.specs.declared.Field.{Field}
 use Rattle.field.proofs.Read.{refused-got}
 use Rattle.envelope.specs.declared.Node.{Node}
 use Rattle.envelope.specs.Envelope.{Taken}
-use Rattle.expression.specs.Table.{flat, flats}
-use Rattle.expression.specs.Inner.Nodes.{nodesIn, nodeAt, AllTaken, Holds}
+use Rattle.expression.specs.Inner.Nodes.{perNode, HasNode, flat, flats, nodesIn, nodeAt, AllTaken, Holds}
 use Rattle.expression.proofs.Lookup.{none-some}
 use Rattle.expression.proofs.Tables.{node-at, flats-back, flats-more, flats-holds}
 use Rattle.sheet.specs.Reader.{rowsAt}
@@ -40,24 +39,24 @@ taken-more (z ∷ xs) x t h zero y p = t zero y p
 taken-more (z ∷ xs) x t h (suc i) y p = taken-more xs x (λ j y q. t (suc j) y q) h i y p
 
 -- a node stored after i others
-pub table-more : (t : List ℤ) (i : ℕ) (xs : List Node) (x : Node) → 4 * i + 3 < length t → take (4 * i) t ≡ flats xs → take (4 * (i + 1)) (sets t (4 * i) (flat x)) ≡ flats (xs ++ (x ∷ []))
+pub table-more : (t : List ℤ) (i : ℕ) (xs : List Node) (x : Node) → HasNode t i → take (perNode * i) t ≡ flats xs → take (perNode * (i + 1)) (sets t (perNode * i) (flat x)) ≡ flats (xs ++ (x ∷ []))
 table-more t i xs x h p =
-    rw (sets-eq (flat x) t (4 * i) (omega arith))
-    (take-at (take (4 * i) t ++ flat x) _ (4 * (i + 1)) (simp (length-append, length-take-le (4 * i) t (omega arith)) (omega arith))
+    rw (sets-eq (flat x) t (perNode * i) (omega arith))
+    (take-at (take (perNode * i) t ++ flat x) _ (perNode * (i + 1)) (simp (length-append, length-take-le (perNode * i) t (omega arith)) (omega arith))
     ∙ rw p (sym (flats-more xs x)))
 
 -- ---- a table whose first numbers are those of taken nodes
-module _ (t : List ℤ) (n : ℕ) (xs : List Node) (table : take (4 * n) t ≡ flats xs) (taken : AllTaken xs) where
-  pub lent-holds : Holds (take (4 * n) t)
+module _ (t : List ℤ) (n : ℕ) (xs : List Node) (table : take (perNode * n) t ≡ flats xs) (taken : AllTaken xs) where
+  pub lent-holds : Holds (take (perNode * n) t)
   lent-holds = subst Holds (sym table) (flats-holds xs taken)
 
-  pub lent-nodes : nodesIn (take (4 * n) t) ≡ xs
+  pub lent-nodes : nodesIn (take (perNode * n) t) ≡ xs
   lent-nodes = ap nodesIn table ∙ flats-back xs
 
 -- ---- a loop over n rows: i of them are read, and their nodes are in the table
 pub record Stored {A : Type 0} (row : List A → ℕ → Read A) (f : A → Node) (n i : ℕ) (t : List ℤ) (a₀ a : ℕ) : Type 0 where
   pub on : Reached row n i a₀ a
-  pub table : take (4 * i) t ≡ flats (map f (on .so-far))
+  pub table : take (perNode * i) t ≡ flats (map f (on .so-far))
   pub taken : AllTaken (map f (on .so-far))
 
 module _ {A : Type 0} (row : List A → ℕ → Read A) (f : A → Node) where
@@ -72,8 +71,8 @@ module _ {A : Type 0} (row : List A → ℕ → Read A) (f : A → Node) where
         row (h .on .so-far) a ≡ got x c →
         f x ≡ y →
         Taken (y .envelope) →
-        4 * i + 3 < length t →
-        t′ ≡ sets t (4 * i) (flat y) →
+        HasNode t i →
+        t′ ≡ sets t (perNode * i) (flat y) →
         Stored row f n (i + 1) t′ a₀ c
     unfolding reached-more
     stored-more more x c y t′ p e g l q =
@@ -85,10 +84,10 @@ module _ {A : Type 0} (row : List A → ℕ → Read A) (f : A → Node) where
         }
 
     -- what is lent of the table
-    pub stored-holds : Holds (take (4 * i) t)
+    pub stored-holds : Holds (take (perNode * i) t)
     stored-holds = lent-holds t i (map f (h .on .so-far)) (h .table) (h .taken)
 
-    pub stored-nodes : nodesIn (take (4 * i) t) ≡ map f (h .on .so-far)
+    pub stored-nodes : nodesIn (take (perNode * i) t) ≡ map f (h .on .so-far)
     stored-nodes = lent-nodes t i (map f (h .on .so-far)) (h .table) (h .taken)
 
 -- ---- what such a loop answers and leaves: how many rows, and their nodes in the table
@@ -112,7 +111,7 @@ module _ {A : Type 0} (f : A → Node) where
     pub rows : List A
     pub is : X ≡ got rows c
     pub many : length rows ≡ n
-    pub table : take (4 * n) t ≡ flats (map f rows)
+    pub table : take (perNode * n) t ≡ flats (map f rows)
     pub taken : AllTaken (map f rows)
 
   pub left-got : (X : Read (List A)) (r : Field) (t : List ℤ) (n : ℕ) (c : Cursor) → Left f X r t → r ≡ Field.Got n c → Listed X t n (c .at)
@@ -124,13 +123,13 @@ module _ {A : Type 0} (f : A → Node) where
         rows = xs;
         is = ap (λ (x : ℕ). got xs x) z;
         many = m;
-        table = ap (λ (x : ℕ). take (4 * x) t) (sym m) ∙ h .1;
+        table = ap (λ (x : ℕ). take (perNode * x) t) (sym m) ∙ h .1;
         taken = h .2;
       }
   left-got (refused k q) r t n c h e = refused-got (sym h ∙ ap fieldOf e)
 
 -- ---- the nodes of a table, one by one
-pub nodes-next : (t : List ℤ) (i : ℕ) (x : Node) → 4 * i + 3 < length t → x ≡ nodeAt t i → take (i + 1) (nodesIn t) ≡ take i (nodesIn t) ++ (x ∷ [])
+pub nodes-next : (t : List ℤ) (i : ℕ) (x : Node) → HasNode t i → x ≡ nodeAt t i → take (i + 1) (nodesIn t) ≡ take i (nodesIn t) ++ (x ∷ [])
 nodes-next t i x h e = rw (add-one i) (go (nodesIn t) i (node-at t i h ∙ ap some (sym e)))
   where
     go : (xs : List Node) (i : ℕ) → getElem? xs i ≡ some x → take (suc i) xs ≡ take i xs ++ (x ∷ [])

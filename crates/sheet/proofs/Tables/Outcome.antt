@@ -14,8 +14,7 @@ use Rattle.link.specs.declared.Row.{Row}
 use Rattle.link.specs.Link.{stateOf}
 use Rattle.expression.specs.Expression.{Clock}
 use Rattle.envelope.specs.declared.Node.{Node}
-use Rattle.expression.specs.Table.{flats}
-use Rattle.expression.specs.Inner.Nodes.{nodesIn}
+use Rattle.expression.specs.Inner.Nodes.{perNode, flats, nodesIn}
 use Rattle.expression.proofs.Tables.{flats-length, nodes-many}
 use Rattle.sheet.specs.declared.Found.{Found}
 use Rattle.sheet.specs.declared.Reading.{Reading}
@@ -105,17 +104,17 @@ module _ (s : List ℕ) (bytes : AllBytes s) (o : SheetRead) (c : ℕ) (read : r
     tables : Tabled (got o c) t ss es
     tables = subst (λ (r : Read SheetRead). Tabled r t ss es) read tabled
 
-    nodes : take (4 * f .clocks) t ≡ flats (o .table)
+    nodes : take (perNode * f .clocks) t ≡ flats (o .table)
     nodes = rw (← clocks-are o f f-is) (tables .0)
 
     pub states : take (f .clocks) ss ≡ map stateOfClock (o .sheet .clocks)
     states = rw (← clocks-are o f f-is) (tables .1)
 
-    pub table-is : nodesIn (take (4 * f .clocks) t) ≡ o .table
+    pub table-is : nodesIn (take (perNode * f .clocks) t) ≡ o .table
     table-is = lent-nodes t (f .clocks) (o .table) nodes (tables .2)
 
-    lent-many : length (take (4 * f .clocks) t) ≡ 4 * f .clocks
-    lent-many = ap length nodes ∙ flats-length (o .table) ∙ ap (λ (x : ℕ). 4 * x) (clocks-are o f f-is)
+    lent-many : length (take (perNode * f .clocks) t) ≡ perNode * f .clocks
+    lent-many = ap length nodes ∙ flats-length (o .table) ∙ ap (λ (x : ℕ). perNode * x) (clocks-are o f f-is)
 
     states-many : length (take (f .clocks) ss) ≡ f .clocks
     states-many = ap length states ∙ length-map (o .sheet .clocks) stateOfClock ∙ sym (opens s bytes o c read .worked .many) ∙ clocks-are o f f-is
@@ -126,12 +125,12 @@ module _ (s : List ℕ) (bytes : AllBytes s) (o : SheetRead) (c : ℕ) (read : r
     pub links-is : linksOf (take (2 * f .links) es) ≡ o .sheet .links
     links-is = ap linksOf ends ∙ links-flat (o .sheet .links)
 
-    pub ready : Ready (take (4 * f .clocks) t) (take (f .clocks) ss) (take (2 * f .links) es) (f .links)
+    pub ready : Ready (take (perNode * f .clocks) t) (take (f .clocks) ss) (take (2 * f .links) es) (f .links)
     ready =
         let q = opens s bytes o c read in
         record {
           table = lent-holds t (f .clocks) (o .table) nodes (tables .2);
-          many = lent-many ∙ ap (λ (x : ℕ). 4 * x) (sym states-many);
+          many = lent-many ∙ ap (λ (x : ℕ). perNode * x) (sym states-many);
           few-clocks = omega (arith, states-many, clocks-few);
           few-links = links-few;
           pairs = ap length ends ∙ flat-length (o .sheet .links) ∙ ap (λ (x : ℕ). 2 * x) (links-are o f f-is);
@@ -141,7 +140,7 @@ module _ (s : List ℕ) (bytes : AllBytes s) (o : SheetRead) (c : ℕ) (read : r
         }
 
     -- what is given of the tables is what working the sheet out gives
-    pub out-given : (x x′ l l′ : List ℤ) (r : Reply) → Given (take (4 * f .clocks) t) (take (f .clocks) ss) (take (2 * f .links) es) x l r x′ l′ → WorksOut s x l r x′ l′
+    pub out-given : (x x′ l l′ : List ℤ) (r : Reply) → Given (take (perNode * f .clocks) t) (take (f .clocks) ss) (take (2 * f .links) es) x l r x′ l′ → WorksOut s x l r x′ l′
     unfolding workedOf
     out-given x x′ l l′ r g =
         let d = g o c table-is states links-is in

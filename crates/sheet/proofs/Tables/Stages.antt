@@ -19,8 +19,7 @@ use Rattle.field.proofs.Spelling.{end}
 use Rattle.envelope.specs.declared.Node.{Node}
 use Rattle.expression.specs.Expression.{Word, spellWord}
 use Rattle.expression.specs.Evaluate.{wordNode, wordNodes}
-use Rattle.expression.specs.Table.{flats}
-use Rattle.expression.specs.Inner.Nodes.{nodesIn, AllTaken, Holds}
+use Rattle.expression.specs.Inner.Nodes.{perNode, flats, nodesIn, AllTaken, Holds}
 use Rattle.sheet.specs.declared.Reading.{Reading}
 use Rattle.sheet.specs.Sheet.{Link, wordsMost, clocksMost, linksMost, bytesMost, section, WordRow}
 use Rattle.sheet.specs.Reader.{sectionAt, wordAt, clockAt, linkAt, asRead, linksOn, clocksOn, readFrom, readSheet}
@@ -104,12 +103,12 @@ module _ (s : List ℕ) (a : ℕ) (xs : List Node) (h : Field) (t : List ℤ) (s
 
     -- the tables hold the clocks of whatever was opened over them
     abbrev Holding : SheetRead → Type 0
-    Holding o = (take (4 * length (o .table)) t ≡ flats (o .table)) × (take (length (o .table)) ss ≡ map stateOfClock (o .sheet .clocks)) × AllTaken (o .table)
+    Holding o = (take (perNode * length (o .table)) t ≡ flats (o .table)) × (take (length (o .table)) ss ≡ map stateOfClock (o .sheet .clocks)) × AllTaken (o .table)
 
     holding : (ws : List Word) (ls : List Link) → Holding (asRead ws (clocks .rows) ls)
     holding ws ls =
         let n : length (map nodeOfClock (clocks .rows)) ≡ m = length-map (clocks .rows) nodeOfClock ∙ clocks .many in (
-          ap (λ (x : ℕ). take (4 * x) t) n ∙ clocks .table,
+          ap (λ (x : ℕ). take (perNode * x) t) n ∙ clocks .table,
           ap (λ (x : ℕ). take x ss) (length-map (clocks .rows) nodeOfClock) ∙ clocks-states (sectionAt (clockAt s xs) clocksMost s a) h t ss (clocks .rows) (c .at) (clocks .is) told ∙ sym (map-states (clocks .rows)),
           clocks .taken,
         )
@@ -151,7 +150,7 @@ module _ (s : List ℕ) (short : length s ≤ bytesMost) (f : Field) (list : Lis
     pub few-words : w ≤ wordsMost
     few-words = omega (arith, sectioned (word-row s) wordsMost s 0 (words .rows) (c .at) (words .is) .few, words .many)
 
-    pub words-hold : Holds (take (4 * w) list)
+    pub words-hold : Holds (take (perNode * w) list)
     words-hold = lent-holds list w (wordNodes (words .rows)) (words .table) (words .taken)
 
     words-end : AllBytes s → c .at ≡ length (section spellWord (words .rows))
@@ -159,7 +158,7 @@ module _ (s : List ℕ) (short : length s ≤ bytesMost) (f : Field) (list : Lis
         let b = section-reads s (word-row s) spellWord (λ xs w. WordRow w) bytes (λ xs a w c. word-reads s bytes a w c) wordsMost 0 (words .rows) (c .at) (words .is) in
         omega (arith, end (b .2) .0)
 
-    pub words-then : AllBytes s → (r : Reading) (t : List ℤ) (ss es : List ℕ) → FromClocks s (c .at) (nodesIn (take (4 * w) list)) r t ss es → Answered s r t ss es
+    pub words-then : AllBytes s → (r : Reading) (t : List ℤ) (ss es : List ℕ) → FromClocks s (c .at) (nodesIn (take (perNode * w) list)) r t ss es → Answered s r t ss es
     unfolding readFrom
     words-then bytes r t ss es on =
         let d = on (words .rows) (lent-nodes list w (wordNodes (words .rows)) (words .table) (words .taken)) in

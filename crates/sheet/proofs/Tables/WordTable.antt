@@ -18,9 +18,9 @@ use Rattle.envelope.specs.Envelope.{Taken}
 use Rattle.envelope.specs.Word.{onesIn, wordOf}
 use Rattle.envelope.specs.Made.{nodeOf}
 use Rattle.envelope.proofs.Taken.{word-taken}
+use Rattle.expression.specs.Inner.Nodes.{perNode, HasNode, flat}
 use Rattle.expression.specs.Expression.{Word}
 use Rattle.expression.specs.Evaluate.{wordNode}
-use Rattle.expression.specs.Table.{flat}
 use Rattle.sheet.specs.Sheet.{wordsMost}
 use Rattle.sheet.specs.Reader.{rowsAt, bitsAt, wordAt}
 use Rattle.sheet.specs.Inner.Sections.{wordBits, WordsLeft, WordRows}
@@ -71,7 +71,7 @@ abbrev pub word-row : List ℕ → List Word → ℕ → Read Word
 word-row s xs a = wordAt s a
 
 module _ (s : List ℕ) (n i : ℕ) (t : List ℤ) (a₀ a : ℕ) (h : Stored (word-row s) wordNode n i t a₀ a) (more : i < n) where
-  pub words-more : (x : Node) (c : ℕ) (t′ : List ℤ) → mapped wordNode (wordAt s a) ≡ got x c → Taken (x .envelope) → 4 * i + 3 < length t → t′ ≡ sets t (4 * i) (flat x)
+  pub words-more : (x : Node) (c : ℕ) (t′ : List ℤ) → mapped wordNode (wordAt s a) ≡ got x c → Taken (x .envelope) → HasNode t i → t′ ≡ sets t (perNode * i) (flat x)
       → Stored (word-row s) wordNode n (i + 1) t′ a₀ c
   words-more x c t′ p g l q =
       let r = mapped-got wordNode (wordAt s a) x c p in

@@ -9,7 +9,7 @@ use lib.ListN.{length, length-set}
 use lib.Seq.{length-take-le}
 use Rattle.field.specs.declared.Field.{Field}
 use Rattle.envelope.specs.Envelope.{Taken}
-use Rattle.expression.specs.Inner.Nodes.{nodesIn}
+use Rattle.expression.specs.Inner.Nodes.{perNode, nodesIn}
 use Rattle.sheet.specs.Inner.Sections.{markedOf}
 use Rattle.sheet.proofs.Tables.NodeTables.{stored-holds}
 use Rattle.sheet.proofs.Tables.ClockTable.{Kept, mark-taken, kept-none, kept-more, kept-refused, kept-all, clocks-refused}
@@ -32,7 +32,7 @@ slice-reshare-prefix-clock : tie.Need-slice-reshare-prefix-clock Inv-loop μ-loo
 slice-reshare-prefix-clock c = omega (arith, c .before .before .before .before .pre .3)
 
 slice-aggregate-clock : tie.Need-slice-aggregate-clock Inv-loop μ-loop
-slice-aggregate-clock c = sym (length-take-le (4 * c .before .before .loop .i) (c .before .before .loop .table) (omega (arith, c .before .before .before .before .before .pre .3)))
+slice-aggregate-clock c = sym (length-take-le (perNode * c .before .before .loop .i) (c .before .before .loop .table) (omega (arith, c .before .before .before .before .before .pre .3)))
 
 clock-requires : tie.Need-clock-requires Inv-loop μ-loop
 clock-requires c κs = (c .before .before .before .before .before .pre .2, stored-holds _ _ _ _ _ _ _ (c .before .before .loop .inv .3 .nodes))

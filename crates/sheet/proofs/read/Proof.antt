@@ -6,6 +6,7 @@ use borrow.Author.Needs.{needs}
 use denote.Ref.{now}
 use lib.ListN.{length}
 use lib.Seq.{length-take-le}
+use Rattle.expression.specs.Inner.Nodes.{perNode}
 use Rattle.sheet.specs.Sheet.{wordsMost}
 use Rattle.sheet.proofs.Tables.Stages.{too-long, words-refused, few-words, words-hold, words-then}
 use Rattle.sheet.proofs.read.Statement.{statement}
@@ -16,7 +17,7 @@ module _ (c : tie.After-known-told2) where
   few : c .before .w .given .0 .0 ≤ wordsMost
   few = few-words _ (c .before .before .before .before .before .before .if1 .left) _ _ (c .before .before .before .before .read-words .ensures) _ _ (c .before .w .given .1)
 
-  list-fits : 4 * c .before .w .given .0 .0 ≤ length (c .before .before .before .before .read-words .last .1 .1 .0)
+  list-fits : perNode * c .before .w .given .0 .0 ≤ length (c .before .before .before .before .read-words .last .1 .1 .0)
   list-fits = omega (arith, few, c .before .before .before .before .read-words .kept .1 .1 .0)
 
 slice-aggregate-read-from-clocks : tie.Need-slice-aggregate-read-from-clocks

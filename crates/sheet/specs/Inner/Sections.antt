@@ -18,8 +18,7 @@ use Rattle.link.specs.Link.{stateOf, openSizeOf}
 use Rattle.expression.specs.Expression.{Word, Clock, depthMost, spellWord, spellClock}
 use Rattle.expression.specs.Evaluate.{wordNodes}
 use Rattle.expression.specs.Reader.{exprAt, nodeIn}
-use Rattle.expression.specs.Table.{flats}
-use Rattle.expression.specs.Inner.Nodes.{nodesIn, AllTaken, Holds}
+use Rattle.expression.specs.Inner.Nodes.{perNode, flats, nodesIn, AllTaken, Holds}
 use Rattle.sheet.specs.declared.Marked.{Marked}
 use Rattle.sheet.specs.declared.Ends.{Ends}
 use Rattle.sheet.specs.declared.Found.{Found}
@@ -42,7 +41,7 @@ wordBits p q s a =
 -- how many words, and their nodes in the table
 abbrev pub WordsLeft : Read (List Word) → Field → List ℤ → Type 0
 WordsLeft (got ws c) r t =
-    (fieldOf r ≡ got (length ws) c) × (take (4 * length ws) t ≡ flats (wordNodes ws)) × AllTaken (wordNodes ws)
+    (fieldOf r ≡ got (length ws) c) × (take (perNode * length ws) t ≡ flats (wordNodes ws)) × AllTaken (wordNodes ws)
 WordsLeft (refused number place) r t = fieldOf r ≡ refused number place
 
 abbrev pub WordRows : List ℕ → ℕ → Field → List ℤ → Type 0
@@ -72,7 +71,7 @@ stateOfRow r = r .clock .state
 abbrev pub ClockRows : Read (List ClockNode) → Field → List ℤ → List ℕ → Type 0
 ClockRows (got rows c) r t ss =
     (fieldOf r ≡ got (length rows) c)
-    × (take (4 * length rows) t ≡ flats (map nodeOfClock rows))
+    × (take (perNode * length rows) t ≡ flats (map nodeOfClock rows))
     × (take (length rows) ss ≡ map stateOfRow rows)
     × AllTaken (map nodeOfClock rows)
 ClockRows (refused number place) r t ss = fieldOf r ≡ refused number place
@@ -127,7 +126,7 @@ EndsLeft (refused number place) es = Unit
 -- the clocks' nodes, their states and the links' ends, each in its table
 abbrev pub Tabled : Read SheetRead → List ℤ → List ℕ → List ℕ → Type 0
 Tabled (got o c) t ss es =
-    (take (4 * length (o .table)) t ≡ flats (o .table))
+    (take (perNode * length (o .table)) t ≡ flats (o .table))
     × (take (length (o .table)) ss ≡ map stateOfClock (o .sheet .clocks))
     × AllTaken (o .table)
     × EndsLeft (got o c) es
@@ -171,7 +170,7 @@ roomsWith q r = record { opened = q .opened + openSizeOf r; whole = q .whole + s
 -- the ends of n links in a table, between the clocks of the others
 pub record Ready (t : List ℤ) (ss es : List ℕ) (n : ℕ) : Type 0 where
   pub table : Holds t
-  pub many : length t ≡ 4 * length ss
+  pub many : length t ≡ perNode * length ss
   pub few-clocks : length ss ≤ clocksMost
   pub few-links : n ≤ linksMost
   pub pairs : length es ≡ 2 * n
