@@ -13,7 +13,6 @@ use Rattle.link.specs.declared.Verdict.{Verdict}
 use Rattle.link.specs.declared.Verdict.the-variants.{Accepted, Rates, Early}
 use Rattle.link.specs.Link.{verdictNumber, sizeIn}
 use Rattle.sheet.specs.Sheet.{Link}
-use Rattle.sheet.specs.Reader.{readSheet}
 use Rattle.sheet.specs.SheetRead.{SheetRead}
 use Rattle.sheet.specs.Rooms.{rowOf, verdictIn}
 use Rattle.sheet.specs.WorkOut.{linkNumbers, flatten}

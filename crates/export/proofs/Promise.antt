@@ -6,7 +6,7 @@ use lib.ListN.{length}
 use Rattle.register.specs.declared.QuoteReply.{QuoteReply}
 use Rattle.report.specs.Listing.{over}
 use Rattle.export.specs.Flat.{quoteWritten}
-use Rattle.export.specs.Promise.{As, Copies, NoSecondReply}
+use Rattle.export.specs.Promise.{NoSecondReply}
 
 pub no-second-reply : NoSecondReply
 no-second-reply =

@@ -11,7 +11,7 @@ use Rattle.pattern.specs.declared.Answer.the-variants.{Inside, Done, Las
 use Rattle.pattern.specs.Pattern.{longest, number}
 use Rattle.pattern.specs.Beginning.{Begins}
 use Rattle.pattern.specs.Table.{Unfit, Refuses}
-use Rattle.pattern.specs.Answer.{checkAnswer, firstAnswer, firstBytes, nextAnswer, nextBytes, Firsts, Nexts}
+use Rattle.pattern.specs.Answer.{checkAnswer, firstAnswer, nextAnswer, nextBytes, Firsts, Nexts}
 
 -- q is the least beginning, of p's length, that comes after p in binary order
 pub record Successor (e : Envelope) (p q : List ℕ) : Type 0 where

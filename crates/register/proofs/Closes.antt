@@ -4,7 +4,7 @@ use mathlib.Core.Logic.{_≢_}
 use mathlib.Core.Bool.{Bool, true, false, cond, _||_}
 use mathlib.Core.List.{List, [], _∷_}
 use mathlib.Core.Option.{Option, none, some}
-use Prim.Native.Nat.{ℕ, zero, suc, _+_, _≤_, _<_}
+use Prim.Native.Nat.{ℕ, _+_, _<_}
 use native.Mathlib.Omega.{arith}
 use lib.Dec.{eqb}
 use lib.ListN.{length, set, getElem?, length-set}
@@ -31,11 +31,6 @@ use Rattle.register.proofs.Marks.{marks-kept, marks-same, marks-both}
 use Rattle.sheet.proofs.Spelling.Places.{clock-bytes, state-byte, clock-at}
 use Rattle.register.proofs.Sheets.{one-byte, close-opens, kept-same, opens-read}
 use Rattle.register.proofs.LinkStates.{alters}
-
-pub past-the-last : {A : Type 0} (xs : List A) (i : ℕ) → length xs ≤ i → getElem? xs i ≡ none
-past-the-last [] i h = refl
-past-the-last (x ∷ xs) zero h = absurd (omega arith)
-past-the-last (x ∷ xs) (suc i) h = past-the-last xs i (omega arith)
 
 -- ---- each answer
 pub closing-refused : (s : List ℕ) (i number place : ℕ) → readSheet s ≡ refused number place → closingOf s i ≡ refused number place

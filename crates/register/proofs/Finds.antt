@@ -4,38 +4,27 @@ use mathlib.Core.Logic.{_≢_}
 use mathlib.Core.List.{List}
 use mathlib.Core.Option.{Option, none, some}
 use Prim.Native.Nat.{ℕ, _+_, _≤_, _<_}
-use native.Mathlib.Numerals.{add-one}
 use native.Mathlib.Omega.{arith}
 use lib.ListN.{length, getD, getElem?}
 use borrow.Author.Tests.{eq-eqb, ne-eqb}
-use Rattle.reply.specs.Numbers.{noClock, alreadyClosed}
+use Rattle.reply.specs.Numbers.{alreadyClosed}
 use Rattle.field.specs.Read.{Read, Read.got, Read.refused, mapped}
 use Rattle.field.specs.Spelling.{AllBytes, Bytes}
 use Rattle.field.specs.Field.{fieldOf}
 use Rattle.field.specs.declared.Field.{Field}
 use Rattle.field.specs.declared.Cursor.{Cursor}
-use Rattle.field.proofs.Read.{through, refused-got}
+use Rattle.field.proofs.Read.{through, refused-got, mapped-got, mapped-refused}
 use Rattle.field.proofs.Spelling.{end}
-use Rattle.expression.specs.Expression.{Clock, spellWord, spellClock}
-use Rattle.expression.specs.Inner.Skipping.{HasExpr}
-use Rattle.expression.proofs.Lookup.{lookup-there}
-use Rattle.sheet.specs.declared.Found.{Found}
-use Rattle.sheet.specs.declared.Reading.{Reading}
-use Rattle.sheet.specs.Sheet.{rows, section}
+use Rattle.expression.specs.Expression.{Clock, spellClock}
 use Rattle.sheet.specs.Reader.{readSheet}
 use Rattle.sheet.specs.SheetRead.{SheetRead}
-use Rattle.sheet.specs.Inner.Sections.{foundOf, readingOf}
 use Rattle.sheet.proofs.Spelling.Rows.{same-got}
-use Rattle.sheet.proofs.Tables.Readings.{mapped-got, mapped-refused}
 use Rattle.sheet.proofs.Spelling.Sheets.{Opens, sheet-reads}
-use Rattle.sheet.specs.Locating.{clockPlace, Located, placeOf, listedClock, locatedIn}
-use Rattle.register.specs.Inner.Skipping.{HasClocks}
+use Rattle.sheet.specs.Locating.{Located, placeOf, listedClock, locatedIn}
 use Rattle.register.specs.declared.Closing.{Closing}
 use Rattle.register.specs.Closing.{closingOf, closingReply, closedBytes, Closes}
 use Rattle.register.specs.Quoting.{quotingOf, quotedFrom, quotedPart, Quotes}
-use Rattle.sheet.proofs.Spelling.Places.{clock-bytes, state-byte, next-place}
-use Rattle.register.proofs.Skips.{clock-expr}
-use Rattle.register.proofs.Closes.{past-the-last}
+use Rattle.sheet.proofs.Spelling.Places.{clock-bytes, state-byte}
 
 -- ---- the contracts, by what closing and quoting come to
 pub closes-by : {s t : List ℕ} {i : ℕ} {r : Closing} {x : Read ℕ} → closingOf s i ≡ x → r ≡ closingReply x → t ≡ closedBytes x s → Closes s i r t
@@ -44,74 +33,6 @@ closes-by e p q = record { reply-is = rw e p; bytes-are = rw e q }
 pub quotes-by : {s part : List ℕ} {i : ℕ} {at from : ℕ × ℕ} {x : Read ℕ} → quotingOf s i ≡ x → part ≡ quotedPart x s → from .0 ≡ at .0 → from .1 ≡ quotedFrom x + at .1
     → Quotes s i at part from
 quotes-by e p q r = record { part-is = rw e p; same-memory = q; begins = rw e r }
-
--- the sheet that was read has a clock i, and its clocks begin at `first`
-pub record Chosen (s : List ℕ) (first i : ℕ) : Type 0 where
-  pub opened : SheetRead
-  pub past : ℕ
-  pub reads : readSheet s ≡ got opened past
-  pub clocks : HasClocks s first (i + 1) (opened .sheet)
-
--- ---- a sheet that was read
-module _ (s : List ℕ) (r : Reading) (told : r ≡ readingOf (readSheet s)) where
-  read-refused : (number place : ℕ) → r ≡ Reading.Refused number place → readSheet s ≡ refused number place
-  read-refused number place e = go (readSheet s) (sym e ∙ told)
-    where
-      go : (x : Read SheetRead) → Reading.Refused number place ≡ readingOf x → x ≡ refused number place
-      go (got o c) h = let z : _≡_ {A = ℕ} 0 1 = cc in absurd (omega arith)
-      go (refused n p) h =
-          let a : n ≡ number = cc in
-          let b : p ≡ place = cc in
-          rw (a, b)
-
-  read-whole : (f : Found) → r ≡ Reading.Got f → (o : SheetRead) × (c : ℕ) × (readSheet s ≡ got o c) × (f ≡ foundOf o)
-  read-whole f e = go (readSheet s) refl (sym e ∙ told)
-    where
-      go : (x : Read SheetRead) → readSheet s ≡ x → Reading.Got f ≡ readingOf x → (o : SheetRead) × (c : ℕ) × (readSheet s ≡ got o c) × (f ≡ foundOf o)
-      go (got o c) h q = (o, c, h, cc)
-      go (refused n p) h q = let z : _≡_ {A = ℕ} 0 1 = cc in absurd (omega arith)
-
-  pub find-refused : (i number place : ℕ) → r ≡ Reading.Refused number place → refused number place ≡ mapped placeOf (locatedIn s i)
-  unfolding locatedIn
-  find-refused i number place e = rw (read-refused number place e)
-
-  module _ (bytes : AllBytes s) (f : Found) (is : r ≡ Reading.Got f) (i : ℕ) where
-    pub find-absent : f .clocks ≤ i → refused noClock 0 ≡ mapped placeOf (locatedIn s i)
-    unfolding locatedIn
-    find-absent few =
-        let w = read-whole f is in
-        let o = sheet-reads s bytes (w .0) (w .1) (w .2) in
-        let n : f .clocks ≡ length (w .0 .table) = ap (λ (x : Found). x .clocks) (w .3) in
-        rw (w .2, past-the-last (w .0 .sheet .clocks) i (omega (arith, o .worked .many)))
-
-    pub find-chosen : i < f .clocks → Chosen s (f .clockrows) i
-    unfolding clockPlace rows
-    find-chosen lt =
-        let w = read-whole f is in
-        let o = sheet-reads s bytes (w .0) (w .1) (w .2) in
-        let n : f .clocks ≡ length (w .0 .table) = ap (λ (x : Found). x .clocks) (w .3) in
-        let b : f .clockrows ≡ length (section spellWord (w .0 .sheet .words)) + 2 = ap (λ (x : Found). x .clockrows) (w .3) in
-        record {
-          opened = w .0;
-          past = w .1;
-          reads = w .2;
-          clocks = record { text = o .bytes; begins = b; many = omega (arith, o .worked .many) };
-        }
-
-module _ {s : List ℕ} {first i : ℕ} (chosen : Chosen s first i) where
-  -- the clocks before it
-  pub before-it : HasClocks s first i (chosen .opened .sheet)
-  before-it = record { text = chosen .clocks .text; begins = chosen .clocks .begins; many = omega (arith, chosen .clocks .many) }
-
-  -- behind its state stands its expression
-  pub behind-state : (at : ℕ) → at ≡ clockPlace (chosen .opened .sheet) i → HasExpr s (at + 1) (clockPlace (chosen .opened .sheet) (i + 1))
-  behind-state at e = clock-expr (chosen .clocks) i at e (omega arith)
-
-  pub find-there : (at to : ℕ) → at ≡ clockPlace (chosen .opened .sheet) i → to ≡ clockPlace (chosen .opened .sheet) (i + 1) → got at to ≡ mapped placeOf (locatedIn s i)
-  unfolding locatedIn
-  find-there at to e f =
-      let k = lookup-there (chosen .opened .sheet .clocks) i (omega (arith, chosen .clocks .many)) in
-      rw (chosen .reads, k .1, e, f, add-one i, ← next-place (chosen .opened .sheet) i (k .0) (k .1))
 
 -- ---- a clock that was found
 record Finds (s : List ℕ) (i : ℕ) (at to : ℕ) : Type 0 where

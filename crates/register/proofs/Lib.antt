@@ -1,5 +1,4 @@
 pub mod Marks
-pub mod Skips
 pub mod Sheets
 pub mod LinkStates
 pub mod Closes

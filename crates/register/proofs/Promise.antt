@@ -2,7 +2,7 @@
 use mathlib.Core.Path.{_≡_, refl, sym, ap, _∙_, subst}
 use mathlib.Core.Logic.{_≢_, _↔_}
 use mathlib.Core.List.{List, []}
-use mathlib.Core.Option.{none, some}
+use mathlib.Core.Option.{some}
 use Prim.Native.Nat.{ℕ, _<_}
 use native.Mathlib.Omega.{arith}
 use lib.ListN.{length, getElem?}
@@ -22,12 +22,12 @@ use Rattle.sheet.proofs.Spelling.Rows.{every-at}
 use Rattle.sheet.proofs.Spelling.Sheets.{sheet-reads}
 use Rattle.register.specs.declared.Closing.{Closing}
 use Rattle.register.specs.declared.QuoteReply.{QuoteReply}
-use Rattle.register.specs.Closing.{closingOf, closingReply, closingNumber, closingPlace, closedBytes, Closes}
+use Rattle.register.specs.Closing.{closingOf, closingReply, closingNumber, closingPlace, Closes}
 use Rattle.register.specs.Quoting.{quotingOf, quotedFrom, quotedPart, quoteReply, Quotes, RepliesTo}
 use Rattle.register.specs.Table.{HasMark}
 use Rattle.register.specs.Promise.{Alters, OneClosed, ClosedInTurn, among, Quoted}
 use Rattle.register.specs.OpenLinks.{those, isOpen, untouched, OpenLinks}
-use Rattle.register.specs.Inner.Marking.{closeIn, closeEach}
+use Rattle.register.specs.Inner.Marking.{closeIn}
 use Rattle.register.proofs.LinkStates.{link-states, alters, still-open}
 use Rattle.register.proofs.Closes.{closing-refused, closing-absent, closing-already, closing-open, one-closed, set-passes, set-order, in-turn}
 use Rattle.register.proofs.Table.{by-case}

@@ -1,5 +1,5 @@
 -- Each refusal of closing and quoting is given exactly when the table says, at its place. Assumes nothing.
-use mathlib.Core.Path.{_≡_, refl, sym, ap, ap₂, _∙_}
+use mathlib.Core.Path.{_≡_, refl, sym, ap₂, _∙_}
 use mathlib.Core.Logic.{_≢_, _↔_}
 use mathlib.Core.List.{List, [], _∷_}
 use mathlib.Core.Option.{Option, none, some}
@@ -14,12 +14,12 @@ use Rattle.field.proofs.Read.{refused-got, same-refused}
 use Rattle.expression.specs.Expression.{Clock}
 use Rattle.sheet.specs.Reader.{readSheet}
 use Rattle.sheet.specs.SheetRead.{SheetRead}
-use Rattle.sheet.specs.Format.{Refused}
 use Rattle.sheet.proofs.Refusing.Format.{refused-listed, listed-refused, accepted-passed, passed-accepted}
+use Rattle.sheet.proofs.Finding.Finds.{past-the-last}
 use Rattle.register.specs.Closing.{closingOf, closingReply, closingNumber, closingPlace}
 use Rattle.register.specs.Quoting.{quotingOf, quoteReply}
 use Rattle.register.specs.Table.{QuoteRefused, CloseRefused}
-use Rattle.register.proofs.Closes.{past-the-last, closing-refused, closing-absent, closing-already, closing-open}
+use Rattle.register.proofs.Closes.{closing-refused, closing-absent, closing-already, closing-open}
 use Rattle.register.proofs.Quotes.{quoting-refused, quoting-absent, quoting-there}
 
 -- a text is refused, or has no clock i, or has it

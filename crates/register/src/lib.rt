@@ -1,49 +1,8 @@
 // Closing a clock, and quoting its expression.
 ghost use mathlib.Core.Path.{_≡_};
-ghost use Rattle.field.specs.Field.{fieldOf};
-ghost use Rattle.field.specs.Read.{mapped};
-ghost use Rattle.sheet.specs.Sheet.{Sheet};
-ghost use Rattle.sheet.specs.Locating.{clockPlace, placeOf, locatedIn};
-ghost use Rattle.register.specs.Inner.Skipping.{HasClocks};
 ghost use Rattle.register.specs.Closing.{Closes};
 ghost use Rattle.register.specs.Quoting.{Quotes, RepliesTo};
-use field::Cursor;
 use field::Field;
-use sheet::Reading;
-
-// Where clock `i` begins, from the place of the first clock on.
-fn locate(s: &[u8], first: usize, i: usize) -> usize
-    requires { ⌜ ((v : Sheet) × HasClocks (now s) first i v) ⌝ }
-    ensures { λ r. ⌜ ((v : Sheet) → HasClocks (now (s .entry)) first i v → r ≡ clockPlace v i) ⌝ }
-{
-    let mut at = first;
-    let mut j: usize = 0;
-    while j < i {
-        at = expression::past(s, at + 1);
-        j += 1;
-    }
-    at
-}
-
-// Where clock `i` of a sheet begins, and the cursor past it; or the refusal.
-fn find(s: &[u8], i: usize) -> Field
-    ensures { λ r. ⌜ fieldOf r ≡ mapped placeOf (locatedIn (now (s .entry)) i) ⌝ }
-{
-    let mut table = [0i32; 512];
-    let mut states = [0u8; 128];
-    let mut ends = [0u8; 512];
-    match sheet::read(s, &mut table, &mut states, &mut ends) {
-        Reading::Refused(number, place) => Field::Refused(number, place),
-        Reading::Got(found) => {
-            if found.clocks <= i {
-                return Field::Refused(reply::NO_CLOCK, 0);
-            }
-            let at = locate(s, found.clockrows, i);
-            let end = expression::past(s, at + 1);
-            Field::Got(at, Cursor { at: end })
-        }
-    }
-}
 
 // What closing a clock answers: the place of the byte that it turned; or a refusal's number and place.
 pub enum Closing {
@@ -56,7 +15,7 @@ pub fn close(sheet: &mut [u8], clock: usize) -> Closing
     ensures { λ r. ⌜ Closes (now (sheet .entry)) clock r (now (sheet .exit)) ⌝ }
 {
     let n = sheet.len();
-    match find(&sheet[..n], clock) {
+    match sheet::find(&sheet[..n], clock) {
         Field::Refused(number, place) => Closing::Refused(number, place),
         Field::Got(at, _) => {
             if sheet[at] == 1 {
@@ -72,7 +31,7 @@ pub fn close(sheet: &mut [u8], clock: usize) -> Closing
 pub fn quote(sheet: &[u8], clock: usize) -> &[u8]
     ensures { λ r. ⌜ Quotes (now (sheet .entry)) clock (sheet .entry .ptr) (now r) (r .ptr) ⌝ }
 {
-    match find(sheet, clock) {
+    match sheet::find(sheet, clock) {
         Field::Refused(_, _) => &sheet[..0],
         Field::Got(at, c) => {
             let from = at + 1;
@@ -91,7 +50,7 @@ pub struct QuoteReply {
 pub fn quote_reply(sheet: &[u8], clock: usize) -> QuoteReply
     ensures { λ r. ⌜ RepliesTo (now (sheet .entry)) clock r ⌝ }
 {
-    match find(sheet, clock) {
+    match sheet::find(sheet, clock) {
         Field::Refused(number, place) => QuoteReply { number, place },
         Field::Got(_, _) => QuoteReply {
             number: 0,

@@ -10,7 +10,7 @@ use Rattle.field.specs.Read.{Read.got, Read.refused}
 use Rattle.field.specs.Spelling.{AllBytes}
 use Rattle.envelope.specs.declared.Node.{Node}
 use Rattle.link.specs.declared.Row.{Row}
-use Rattle.expression.specs.Inner.Nodes.{perNode, nodesIn}
+use Rattle.expression.specs.Inner.Nodes.{perNode}
 use Rattle.sheet.specs.declared.Found.{Found}
 use Rattle.sheet.specs.declared.Rooms.{Rooms}
 use Rattle.sheet.specs.Reader.{readSheet}

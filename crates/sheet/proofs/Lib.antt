@@ -3,3 +3,4 @@ pub mod Spelling
 pub mod Served
 pub mod Promise
 pub mod Tables
+pub mod Finding

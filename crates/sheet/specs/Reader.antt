@@ -9,10 +9,10 @@ use Rattle.field.specs.Read.{Read, Read.got, Read.refused, bind}
 use Rattle.field.specs.Field.{fieldIn}
 use Rattle.envelope.specs.declared.Node.{Node}
 use Rattle.envelope.specs.Word.{bitsMost, onesIn}
-use Rattle.expression.specs.Expression.{Word, Clock, depthMost}
+use Rattle.expression.specs.Expression.{Word, depthMost}
 use Rattle.expression.specs.Evaluate.{wordNodes}
 use Rattle.expression.specs.Reader.{exprAt}
-use Rattle.sheet.specs.Sheet.{Link, Sheet, wordsMost, clocksMost, linksMost, bytesMost}
+use Rattle.sheet.specs.Sheet.{Link, wordsMost, clocksMost, linksMost, bytesMost}
 use Rattle.sheet.specs.SheetRead.{ClockNode, clockOf, nodeOfClock, SheetRead}
 
 -- n rows from a on, after those of xs; `row xs a` reads one

@@ -12,10 +12,12 @@ ghost use Rattle.expression.specs.Evaluate.{wordNode};
 ghost use Rattle.expression.specs.Inner.Nodes.{perNode, Holds, nodesIn};
 ghost use Rattle.envelope.specs.Envelope.{Taken};
 ghost use Rattle.envelope.specs.Word.{onesIn};
-ghost use Rattle.sheet.specs.Sheet.{clocksMost, linksMost};
+ghost use Rattle.sheet.specs.Sheet.{Sheet, clocksMost, linksMost};
 ghost use Rattle.sheet.specs.Reader.{rowsAt, sectionAt, bitsAt, wordAt, clockAt, linkAt, readSheet};
+ghost use Rattle.sheet.specs.Locating.{clockPlace, placeOf, locatedIn};
 ghost use Rattle.sheet.specs.WorkOut.{refusalOf, clockNumbers, linkNumbers, flatten, WorksOut};
 ghost use Rattle.sheet.specs.Inner.Sections.{WordRows, ClockRows, markedOf, markedAt, endsOf, wordBits, readingOf, Tabled, rowAt, Ready, LinkRows, linksOf, ToEnd, FromClocks, linkIn, rowsIn, roomsOver, roomsWith, Given};
+ghost use Rattle.sheet.specs.Inner.Skipping.{HasClocks};
 use envelope::Envelope;
 use envelope::Node;
 use expression::PER_NODE;
@@ -348,7 +350,7 @@ fn store_clock(x: Node, list: &mut [i64], i: usize)
 
 // The numbers of m clocks are left in `list`.
 fn fill_clocks(table: &[i32], m: usize, list: &mut [i64])
-    requires { ⌜ Holds (now table) × (length (now table) ≡ perNode * m) × (m ≤ clocksMost) × (perNode * m ≤ length (now list)) ⌝ }
+    requires { ⌜ Holds (now table) × (length (now table) ≡ perNode * m) × (m ≤ clocksMost) × (4 * m ≤ length (now list)) ⌝ }
     ensures { λ _. ⌜ now (list .exit) ≡ flatten clockNumbers (nodesIn (now (table .entry))) ++ drop (4 * m) (now (list .entry)) ⌝ }
 {
     let mut i: usize = 0;
@@ -495,6 +497,40 @@ pub fn work_out(sheet: &[u8], clocks: &mut [i64], links: &mut [i64]) -> Reply
                 clocks,
                 links,
             )
+        }
+    }
+}
+
+// Where clock `i` begins, from the place of the first clock on.
+fn locate(s: &[u8], first: usize, i: usize) -> usize
+    requires { ⌜ ((v : Sheet) × HasClocks (now s) first i v) ⌝ }
+    ensures { λ r. ⌜ ((v : Sheet) → HasClocks (now (s .entry)) first i v → r ≡ clockPlace v i) ⌝ }
+{
+    let mut at = first;
+    let mut j: usize = 0;
+    while j < i {
+        at = expression::past(s, at + 1);
+        j += 1;
+    }
+    at
+}
+
+// Where clock `i` of a sheet begins, and the cursor past it; or the refusal.
+pub fn find(s: &[u8], i: usize) -> Field
+    ensures { λ r. ⌜ fieldOf r ≡ mapped placeOf (locatedIn (now (s .entry)) i) ⌝ }
+{
+    let mut table = [0i32; 512];
+    let mut states = [0u8; 128];
+    let mut ends = [0u8; 512];
+    match read(s, &mut table, &mut states, &mut ends) {
+        Reading::Refused(number, place) => Field::Refused(number, place),
+        Reading::Got(found) => {
+            if found.clocks <= i {
+                return Field::Refused(reply::NO_CLOCK, 0);
+            }
+            let at = locate(s, found.clockrows, i);
+            let end = expression::past(s, at + 1);
+            Field::Got(at, Cursor { at: end })
         }
     }
 }

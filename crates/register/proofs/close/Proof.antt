@@ -2,7 +2,6 @@
 use mathlib.Core.Path.{_≡_, refl, sym, ap, _∙_}
 use mathlib.Core.List.{List}
 use Prim.Native.Nat.{ℕ, _<_}
-use native.Mathlib.Omega.{arith}
 use denote.Ref.{now}
 use lib.ListN.{length}
 use lib.Seq.{take-length}
@@ -15,7 +14,6 @@ use Rattle.register.proofs.close.Statement.{statement}
 use Rattle.register.proofs.close.Tie as tie
 use Rattle.register.proofs.close.Reads as reads
 use Rattle.register.proofs.close.Lts as lts
-use Rattle.register.proofs.find.Reads as find-reads
 
 slice-reshare-prefix-find : tie.Need-slice-reshare-prefix-find
 slice-reshare-prefix-find c = search needs

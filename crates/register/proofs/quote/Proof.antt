@@ -10,7 +10,6 @@ use Rattle.register.proofs.quote.Statement.{statement}
 use Rattle.register.proofs.quote.Tie as tie
 use Rattle.register.proofs.quote.Reads as reads
 use Rattle.register.proofs.quote.Lts as lts
-use Rattle.register.proofs.find.Reads as find-reads
 
 find-requires : tie.Need-find-requires
 find-requires c κs = search needs

@@ -5,7 +5,6 @@ use Rattle.register.proofs.quote_reply.Statement.{statement}
 use Rattle.register.proofs.quote_reply.Tie as tie
 use Rattle.register.proofs.quote_reply.Reads as reads
 use Rattle.register.proofs.quote_reply.Lts as lts
-use Rattle.register.proofs.find.Reads as find-reads
 
 find-requires : tie.Need-find-requires
 find-requires c κs = search needs

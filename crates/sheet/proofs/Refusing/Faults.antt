@@ -1,15 +1,13 @@
 -- Which refusals are given, and where. Assumes nothing.
-use mathlib.Core.Path.{_≡_, refl, sym, ap, ap₂, _∙_, subst}
-use mathlib.Core.Bool.{Bool, true, false, cond}
-use mathlib.Core.Logic.{_⊎_, inl, inr, _≢_}
+use mathlib.Core.Path.{_≡_, sym, ap, ap₂, _∙_, subst}
+use mathlib.Core.Logic.{_≢_}
 use mathlib.Core.List.{List, [], _∷_, _++_, map}
-use Prim.Native.Nat.{ℕ, suc, _+_, _-_, _*_, _≤_, _<_}
+use Prim.Native.Nat.{ℕ, suc, _+_, _-_, _≤_}
 use native.Mathlib.Omega.{arith}
-use lib.Dec.{leb}
 use lib.ListN.{length, length-map, length-append}
 use borrow.Author.Tests.{ne-eqb}
 use Rattle.reply.specs.Numbers.{missing, trailing}
-use Rattle.field.specs.Read.{Read, Read.got, Read.refused}
+use Rattle.field.specs.Read.{Read, Read.refused}
 use Rattle.field.specs.Spelling.{bytesOf, Bytes}
 use Rattle.field.specs.Format.{Fault}
 use Rattle.field.proofs.Spelling.{end, split, itself, bytesOf-length}
@@ -22,7 +20,6 @@ use Rattle.sheet.specs.Sheet.{Sheet, wordsMost, clocksMost, bytesMost, r
 use Rattle.sheet.specs.Reader.{sectionAt, clockAt, linksOn, clocksOn, readFrom, readSheet}
 use Rattle.sheet.specs.SheetRead.{ClockNode, clockOf, nodeOfClock, SheetRead}
 use Rattle.sheet.specs.Format.{sheet}
-use Rattle.sheet.specs.WorkOut.{workedOf}
 use Rattle.sheet.specs.Promise.{UpTo, exprPlace}
 use Rattle.sheet.proofs.Spelling.Rows.{section-stops}
 use Rattle.sheet.proofs.Spelling.Clocks.{ClockMade, clock-read, clock-refused}

@@ -3,14 +3,14 @@ use mathlib.Core.Path.{_≡_, refl, sym, _∙_, subst}
 use mathlib.Core.Bool.{Bool, true, false, cond}
 use mathlib.Core.Logic.{_⊎_, inl, inr, _≢_}
 use mathlib.Core.List.{List, [], _∷_, _++_, map}
-use Prim.Native.Nat.{ℕ, zero, suc, _+_, _≤_, _<_}
+use Prim.Native.Nat.{ℕ, zero, suc, _+_, _≤_}
 use native.Mathlib.Omega.{arith}
 use lib.Dec.{leb, eqb}
 use lib.ListN.{length, length-append}
 use borrow.Author.Tests.{leb-true, leb-false, le-leb, lt-leb, eqb-true, eqb-false, eq-eqb, ne-eqb}
 use Rattle.reply.specs.Numbers.{missing, beyond, unknown, noOne, absent, trailing}
 use Rattle.field.specs.Read.{Read, Read.got, Read.refused, bind}
-use Rattle.field.specs.Format.{Judged.passes, Judged.fails, Format, Format.then, Format.field, Piece, Fault}
+use Rattle.field.specs.Format.{Judged.passes, Judged.fails, Format, Piece, Fault}
 use Rattle.field.specs.Run.{settled, run}
 use Rattle.field.proofs.Read.{refused-got, through, cond-left}
 use Rattle.field.proofs.Format.{read-piece, read-fault, piece-read, fault-read, piece-within, fault-within, piece-stays, fault-stays, Cut, bind-same, bind-assoc, ranged-run}

@@ -3,7 +3,7 @@ use mathlib.Core.Path.{_≡_, refl, sym, _∙_}
 use mathlib.Core.Logic.{inl, inr}
 use mathlib.Core.Bool.{Bool, true, false, cond}
 use mathlib.Core.List.{List}
-use Prim.Native.Nat.{ℕ, _*_, _≤_, _<_}
+use Prim.Native.Nat.{ℕ, _*_, _≤_}
 use lib.Dec.{leb}
 use lib.ListN.{length}
 use borrow.Author.Tests.{le-leb, lt-leb, leb-true, leb-false}
@@ -12,7 +12,7 @@ use Rattle.field.specs.Read.{Read, Read.got, Read.refused, bind}
 use Rattle.field.proofs.Read.{refused-got, same-refused, through, cond-left}
 use Rattle.sheet.specs.Reader.{readSheet}
 use Rattle.sheet.specs.SheetRead.{SheetRead}
-use Rattle.sheet.specs.Format.{Refused, Passed, WorkRefused}
+use Rattle.sheet.specs.Format.{Passed, WorkRefused}
 use Rattle.sheet.specs.WorkOut.{workedOf}
 use Rattle.sheet.proofs.Refusing.Format.{refused-listed, listed-refused, accepted-passed, passed-accepted}
 

@@ -2,7 +2,7 @@
 use mathlib.Core.Path.{_≡_, refl, sym, ap, _∙_, subst}
 use mathlib.Core.List.{List, [], _∷_, map}
 use mathlib.Core.Option.{some}
-use Prim.Native.Nat.{ℕ, zero, suc, _+_, _-_, _≤_, min}
+use Prim.Native.Nat.{ℕ, zero, suc, _+_, _-_, _≤_}
 use native.Mathlib.Omega.{arith}
 use lib.ListN.{length, take, getD, getElem?, length-append, length-map, length-take}
 use Rattle.field.specs.Read.{Read.got}
@@ -16,7 +16,7 @@ use Rattle.expression.specs.Expression.{Clock, spell, spellWord, spellClock}
 use Rattle.expression.specs.Evaluate.{wordNodes}
 use Rattle.expression.specs.Spelled.{indexes}
 use Rattle.expression.proofs.Lookup.{none-some}
-use Rattle.sheet.specs.Sheet.{Sheet, wordsMost, clocksMost, rows, section, spellSheet, Each}
+use Rattle.sheet.specs.Sheet.{Sheet, wordsMost, rows, section, spellSheet, Each}
 use Rattle.sheet.specs.Reader.{rowsAt, wordAt, clockAt}
 use Rattle.sheet.specs.SheetRead.{ClockNode, clockOf, SheetRead}
 use Rattle.sheet.specs.Format.{many, wordRow, counted, clockRow, upTo, ClockAt}

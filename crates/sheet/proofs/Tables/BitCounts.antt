@@ -12,6 +12,7 @@ use lib.Seq.{take-at, drop-at}
 use borrow.Author.Tests.{le-leb}
 use Rattle.reply.specs.Numbers.{unknown, noOne}
 use Rattle.field.specs.Read.{Read, Read.got, Read.refused, bind, mapped}
+use Rattle.field.proofs.Read.{mapped-got, mapped-refused}
 use Rattle.field.specs.Spelling.{AllBytes}
 use Rattle.field.specs.Field.{fieldIn}
 use Rattle.field.proofs.Fields.{field-there}
@@ -22,7 +23,6 @@ use Rattle.envelope.specs.Made.{nodeOf}
 use Rattle.sheet.specs.Reader.{bitsAt}
 use Rattle.sheet.specs.Inner.Sections.{wordBits}
 use Rattle.sheet.proofs.Spelling.Words.{bits-reads}
-use Rattle.sheet.proofs.Tables.Readings.{mapped-got, mapped-refused}
 
 -- a bit is its own count
 bit-value : (b : ℕ) → b < 2 → value (eqb b 1) ≡ b

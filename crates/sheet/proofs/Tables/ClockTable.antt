@@ -12,7 +12,7 @@ use Rattle.reply.specs.Numbers.{beyond, unknown}
 use Rattle.field.specs.Read.{Read, Read.got, Read.refused, bind, mapped}
 use Rattle.field.specs.Field.{fieldIn, fieldOf}
 use Rattle.field.specs.declared.Field.{Field}
-use Rattle.field.proofs.Read.{refused-got, through}
+use Rattle.field.proofs.Read.{refused-got, through, mapped-got, mapped-refused}
 use Rattle.envelope.specs.declared.Node.{Node}
 use Rattle.envelope.specs.Envelope.{Taken}
 use Rattle.expression.specs.Expression.{depthMost}
@@ -24,7 +24,7 @@ use Rattle.sheet.specs.Sheet.{clocksMost}
 use Rattle.sheet.specs.Reader.{rowsAt, sectionAt, clockAt}
 use Rattle.sheet.specs.SheetRead.{ClockNode, nodeOfClock}
 use Rattle.sheet.specs.Inner.Sections.{Mark, markedAt, stateOfRow, ClockRows}
-use Rattle.sheet.proofs.Tables.Readings.{section-none, section-rows, mapped-got, mapped-refused, reached-none, reached-more, reached-refused, reached-all}
+use Rattle.sheet.proofs.Tables.Readings.{section-none, section-rows, reached-none, reached-more, reached-refused, reached-all}
 use Rattle.sheet.proofs.Tables.NodeTables.{map-more, Stored, stored-none, stored-more, stored-nodes, Left}
 
 -- ---- a clock, with the expression left out

@@ -1,15 +1,14 @@
 -- The ends of links in a table, as a loop leaves them and as another finds them. Assumes nothing.
-use mathlib.Core.Path.{_≡_, refl, sym, ap, ap₂, _∙_, subst}
+use mathlib.Core.Path.{_≡_, refl, sym, ap, _∙_, subst}
 use mathlib.Core.List.{List, [], _∷_, _++_}
-use Prim.Native.Nat.{ℕ, zero, suc, _+_, _*_, _≤_, _<_}
+use Prim.Native.Nat.{ℕ, zero, suc, _+_, _*_, _<_}
 use native.Mathlib.Numerals.{add-one}
 use native.Mathlib.Omega.{arith}
 use lib.ListN.{length, getD, take, drop, set, length-append}
-use lib.Seq.{sets, sets-eq, take-at, take-suc, drop-cons, length-take-le}
+use lib.Seq.{sets-eq, take-at, take-suc, drop-cons, length-take-le}
 use Rattle.field.specs.Read.{Read, Read.got, Read.refused, mapped}
 use Rattle.field.specs.Field.{fieldOf}
 use Rattle.field.specs.declared.Field.{Field}
-use Rattle.field.proofs.Read.{refused-got}
 use Rattle.sheet.specs.Sheet.{Link, LinkRow, Each}
 use Rattle.sheet.specs.Reader.{linkAt}
 use Rattle.sheet.specs.Inner.Sections.{flatLinks, linksOf, LinkRows, linkIn}

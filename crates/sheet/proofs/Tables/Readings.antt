@@ -1,5 +1,4 @@
--- Laws of readings that are seen through a function, and of loops over rows.
--- Assumes nothing.
+-- Laws of loops over rows. Assumes nothing.
 use mathlib.Core.Path.{_≡_, refl, sym, ap, ap₂, _∙_}
 use mathlib.Core.List.{List, [], _∷_, _++_}
 use Prim.Native.Nat.{ℕ, zero, suc, _+_, _-_, _≤_, _<_}
@@ -8,18 +7,11 @@ use native.Mathlib.Numerals.{sub-one}
 use native.Mathlib.Omega.{arith}
 use lib.ListN.{length, length-append}
 use Rattle.reply.specs.Numbers.{beyond}
-use Rattle.field.specs.Read.{Read, Read.got, Read.refused, bind, mapped}
+use Rattle.field.specs.Read.{Read, Read.got, Read.refused, bind}
 use Rattle.field.specs.Field.{fieldIn}
-use Rattle.field.proofs.Read.{refused-got, through}
+use Rattle.field.proofs.Read.{through}
 use Rattle.field.proofs.Fields.{field-there}
 use Rattle.sheet.specs.Reader.{rowsAt, sectionAt}
-
--- ---- what was read, seen through f
-pub mapped-got : {A B : Type 0} (f : A → B) (r : Read A) (y : B) (c : ℕ) → mapped f r ≡ got y c → (x : A) × (r ≡ got x c) × (f x ≡ y)
-mapped-got f (got x d) y c h =
-    let z : d ≡ c = cc in
-    (x, ap (λ (k : ℕ). got x k) z, cc)
-mapped-got f (refused number place) y c h = refused-got h
 
 -- a refusal is the same refusal of whatever was to be read
 pub refused-same : {A B : Type 0} (k q number place : ℕ) → _≡_ {A = Read A} (refused k q) (refused number place) → _≡_ {A = Read B} (refused k q) (refused number place)
@@ -27,10 +19,6 @@ refused-same {A} {B} k q number place e =
     let z : k ≡ number = cc in
     let w : q ≡ place = cc in
     ap₂ {A = ℕ} {B = ℕ} {C = Read B} (λ (x y : ℕ). refused x y) z w
-
-pub mapped-refused : {A B : Type 0} (f : A → B) (r : Read A) (number place : ℕ) → mapped f r ≡ refused number place → r ≡ refused number place
-mapped-refused f (got x d) number place h = refused-got (sym h)
-mapped-refused {A} {B} f (refused k q) number place h = refused-same {A = B} {B = A} k q number place h
 
 -- ---- how far a loop over n rows has come: i of them are read, and the next stands at a
 pub record Reached {A : Type 0} (row : List A → ℕ → Read A) (n i a₀ a : ℕ) : Type 0 where

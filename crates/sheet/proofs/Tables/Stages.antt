@@ -14,7 +14,7 @@ use Rattle.field.specs.Spelling.{AllBytes}
 use Rattle.field.specs.Field.{fieldOf}
 use Rattle.field.specs.declared.Cursor.{Cursor}
 use Rattle.field.specs.declared.Field.{Field}
-use Rattle.field.proofs.Read.{through, cond-left}
+use Rattle.field.proofs.Read.{through, cond-left, mapped-got, mapped-refused}
 use Rattle.field.proofs.Spelling.{end}
 use Rattle.envelope.specs.declared.Node.{Node}
 use Rattle.expression.specs.Expression.{Word, spellWord}
@@ -22,13 +22,13 @@ use Rattle.expression.specs.Evaluate.{wordNode, wordNodes}
 use Rattle.expression.specs.Inner.Nodes.{perNode, flats, nodesIn, AllTaken, Holds}
 use Rattle.sheet.specs.declared.Reading.{Reading}
 use Rattle.sheet.specs.Sheet.{Link, wordsMost, clocksMost, linksMost, bytesMost, section, WordRow}
-use Rattle.sheet.specs.Reader.{sectionAt, wordAt, clockAt, linkAt, asRead, linksOn, clocksOn, readFrom, readSheet}
+use Rattle.sheet.specs.Reader.{sectionAt, clockAt, linkAt, asRead, linksOn, clocksOn, readFrom, readSheet}
 use Rattle.sheet.specs.SheetRead.{ClockNode, clockOf, nodeOfClock, SheetRead}
 use Rattle.sheet.specs.Inner.Sections.{WordRows, ClockRows, LinkRows, stateOfRow, stateOfClock, readingFrom, readingOf, EndsLeft, Tabled, ToEnd, FromClocks}
 use Rattle.sheet.proofs.Refusing.Format.{short-enough}
 use Rattle.sheet.proofs.Spelling.Rows.{section-reads}
 use Rattle.sheet.proofs.Spelling.Words.{word-reads}
-use Rattle.sheet.proofs.Tables.Readings.{mapped-got, mapped-refused, sectioned}
+use Rattle.sheet.proofs.Tables.Readings.{sectioned}
 use Rattle.sheet.proofs.Tables.NodeTables.{lent-holds, lent-nodes, Listed, left-refused, left-got}
 use Rattle.sheet.proofs.Tables.WordTable.{word-row, words-left}
 use Rattle.sheet.proofs.Tables.ClockTable.{clocks-left, clocks-states}

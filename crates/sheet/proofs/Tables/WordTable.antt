@@ -6,10 +6,10 @@ use mathlib.Core.List.{List, []}
 use Prim.Native.Nat.{ℕ, _+_, _*_, _<_}
 use lib.IntN.{ℤ}
 use lib.Dec.{leb}
-use lib.ListN.{length}
 use lib.Seq.{sets}
 use Rattle.reply.specs.Numbers.{beyond, noOne}
 use Rattle.field.specs.Read.{Read, Read.got, Read.refused, bind, mapped}
+use Rattle.field.proofs.Read.{mapped-got, mapped-refused}
 use Rattle.field.specs.Spelling.{AllBytes}
 use Rattle.field.specs.Field.{fieldIn, fieldOf}
 use Rattle.field.specs.declared.Field.{Field}
@@ -25,7 +25,7 @@ use Rattle.sheet.specs.Sheet.{wordsMost}
 use Rattle.sheet.specs.Reader.{rowsAt, bitsAt, wordAt}
 use Rattle.sheet.specs.Inner.Sections.{wordBits, WordsLeft, WordRows}
 use Rattle.sheet.proofs.Spelling.Words.{word-reads}
-use Rattle.sheet.proofs.Tables.Readings.{mapped-got, mapped-refused, reached-refused, section-none, section-rows}
+use Rattle.sheet.proofs.Tables.Readings.{reached-refused, section-none, section-rows}
 use Rattle.sheet.proofs.Tables.NodeTables.{Stored, stored-more, stored-all, Left}
 
 -- a word's node, by its lengths and its bits

@@ -1,8 +1,7 @@
 -- `read_clocks` meets its contract. Assumes nothing.
-use mathlib.Core.Path.{_≡_, refl, sym, ap, _∙_}
+use mathlib.Core.Path.{refl, sym, ap, _∙_}
 use native.Mathlib.Omega.{arith}
 use borrow.Author.Needs.{needs}
-use denote.Ref.{now}
 use Rattle.field.specs.Field.{fieldOf}
 use Rattle.field.proofs.Fields.{there}
 use Rattle.sheet.proofs.Tables.ClockTable.{section-refused, section-left}

@@ -8,7 +8,7 @@ use borrow.Author.Needs.{needs}
 use denote.Ref.{now}
 use lib.ListN.{length, length-set}
 use Rattle.reply.specs.Numbers.{beyond}
-use Rattle.field.specs.Read.{Read, Read.got}
+use Rattle.field.specs.Read.{Read.got}
 use Rattle.field.specs.Field.{fieldIn, fieldOf}
 use Rattle.field.proofs.Fields.{field-there}
 use Rattle.sheet.specs.Sheet.{linksMost}

@@ -15,7 +15,7 @@ use Rattle.envelope.specs.Word.{onesIn, wordOf}
 use Rattle.envelope.specs.Made.{nodeOf}
 use Rattle.link.specs.declared.Row.{Row}
 use Rattle.link.specs.Link.{stateOf, openSizeOf}
-use Rattle.expression.specs.Expression.{Word, Clock, depthMost, spellWord, spellClock}
+use Rattle.expression.specs.Expression.{Word, Clock, depthMost, spellWord}
 use Rattle.expression.specs.Evaluate.{wordNodes}
 use Rattle.expression.specs.Reader.{exprAt, nodeIn}
 use Rattle.expression.specs.Inner.Nodes.{perNode, flats, nodesIn, AllTaken, Holds}

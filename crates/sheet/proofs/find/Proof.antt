@@ -1,14 +1,14 @@
--- `register::find` meets its contract. Assumes nothing.
+-- `sheet::find` meets its contract. Assumes nothing.
 use mathlib.Core.Path.{_≡_}
 use native.Mathlib.Omega.{arith}
 use denote.Ref.{now}
 use borrow.Author.Needs.{needs}
 use Rattle.field.specs.Spelling.{AllBytes}
 use Rattle.field.proofs.Spelling.{end}
 use Rattle.sheet.specs.Locating.{clockPlace}
-use Rattle.register.proofs.Finds.{Chosen, find-refused, find-absent, find-chosen, before-it, behind-state, find-there}
-use Rattle.register.proofs.find.Statement.{statement}
-use Rattle.register.proofs.find.Tie as tie
+use Rattle.sheet.proofs.Finding.Finds.{Chosen, find-refused, find-absent, find-chosen, before-it, behind-state, find-there}
+use Rattle.sheet.proofs.find.Statement.{statement}
+use Rattle.sheet.proofs.find.Tie as tie
 
 -- what was read, and the bytes
 module _ (c : tie.After-known-told2) where

@@ -1,17 +1,17 @@
--- `register::locate` meets its contract. The loop's invariant: clock `j` begins at `at`. The measure is how many clocks are left. Assumes nothing.
+-- `sheet::locate` meets its contract. The loop's invariant: clock `j` begins at `at`. The measure is how many clocks are left. Assumes nothing.
 use mathlib.Core.Path.{_≡_}
 use Prim.Native.Nat.{_-_, _≤_}
 use native.Mathlib.Omega.{arith}
 use borrow.Author.Needs.{needs}
 use Rattle.field.proofs.Spelling.{end}
 use Rattle.sheet.specs.Sheet.{Sheet}
 use Rattle.sheet.specs.Locating.{clockPlace}
-use Rattle.register.specs.Inner.Skipping.{HasClocks}
-use Rattle.register.proofs.Skips.{clock-expr}
-use Rattle.register.proofs.locate.Statement.{statement}
-use Rattle.register.proofs.locate.Tie as tie
-use Rattle.register.proofs.locate.Reads as reads
-use Rattle.register.proofs.locate.Lts as lts
+use Rattle.sheet.specs.Inner.Skipping.{HasClocks}
+use Rattle.sheet.proofs.Finding.Skips.{clock-expr}
+use Rattle.sheet.proofs.locate.Statement.{statement}
+use Rattle.sheet.proofs.locate.Tie as tie
+use Rattle.sheet.proofs.locate.Reads as reads
+use Rattle.sheet.proofs.locate.Lts as lts
 use Rattle.expression.proofs.past.Reads as past-reads
 
 abbrev Inv-loop : tie.InvT-loop

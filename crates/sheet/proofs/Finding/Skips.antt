@@ -6,10 +6,10 @@ use native.Mathlib.Numerals.{add-one}
 use native.Mathlib.Omega.{arith}
 use Rattle.expression.specs.Inner.Skipping.{HasExpr}
 use Rattle.expression.proofs.Lookup.{lookup-there}
 use Rattle.sheet.specs.Sheet.{Sheet}
 use Rattle.sheet.specs.Locating.{clockPlace}
 use Rattle.sheet.proofs.Spelling.Places.{clock-bytes, expr-bytes, next-place}
-use Rattle.register.specs.Inner.Skipping.{HasClocks}
+use Rattle.sheet.specs.Inner.Skipping.{HasClocks}
 
 module _ {s : List ℕ} {first i : ℕ} {v : Sheet} (h : HasClocks s first i v) where
   -- behind a clock's state stands its expression, up to the next clock
