@@ -7,7 +7,7 @@ ghost use lib.ListN.{length, take, drop};
 ghost use Rattle.envelope.specs.Limits.{lMost, lowerLeast, lowerMost};
 ghost use Rattle.envelope.specs.Envelope.{Limits, withinLimits, hasRoom, Taken, resultOf, normalOf, notOf, onOf};
 ghost use Rattle.envelope.specs.Word.{bitAt, onesIn, wordOf};
-ghost use Rattle.envelope.specs.Made.{Fields, declaredOf, limited, negatedOf, joinedOf};
+ghost use Rattle.envelope.specs.Made.{Fields, declaredOf, limited, negatedOf, onWithinLimits};
 ghost use Rattle.envelope.specs.Inner.Span.{includingOf, spanOf};
 ghost use Rattle.envelope.specs.Inner.Tests.{isTaken};
 
@@ -25,7 +25,7 @@ pub struct Node {
 
 // What a rule makes of a node's parts.
 pub enum Made {
-    Whole(Node),
+    Good(Node),
     Empty,
     FullRate,
     Outgrown,
@@ -125,7 +125,7 @@ impl Envelope {
     {
         let e = Envelope::normal(k, K, l, n);
         if e.has_room() {
-            return Made::Whole(Node { envelope: e });
+            return Made::Good(Node { envelope: e });
         }
         Made::Empty
     }
@@ -134,7 +134,7 @@ impl Envelope {
         ensures { λ r. ⌜ r ≡ limited self ⌝ }
     {
         if self.within_limits() {
-            return Made::Whole(Node { envelope: self });
+            return Made::Good(Node { envelope: self });
         }
         Made::Outgrown
     }
@@ -149,9 +149,9 @@ impl Envelope {
         self.not().limited_to()
     }
 
-    pub fn joined(self, b: Envelope) -> Made
+    pub fn on_within_limits(self, b: Envelope) -> Made
         requires { ⌜ Taken self × Taken b ⌝ }
-        ensures { λ r. ⌜ r ≡ joinedOf self b ⌝ }
+        ensures { λ r. ⌜ r ≡ onWithinLimits self b ⌝ }
     {
         self.on(b).limited_to()
     }

@@ -21,10 +21,10 @@ use Rattle.field.proofs.Format.{ranged-run, signed-run}
 use Rattle.envelope.specs.declared.Envelope.{Envelope}
 use Rattle.envelope.specs.declared.Node.{Node}
 use Rattle.envelope.specs.declared.Made.{Made}
-use Rattle.envelope.specs.declared.Made.the-variants.{Whole, Empty, FullRate, Outgrown}
+use Rattle.envelope.specs.declared.Made.the-variants.{Good, Empty, FullRate, Outgrown}
 use Rattle.envelope.specs.Limits.{lMost, lowerLeast, lowerMost, upperLeast, upperMost}
 use Rattle.envelope.specs.Envelope.{Taken}
-use Rattle.envelope.specs.Made.{declaredOf, negatedOf, joinedOf}
+use Rattle.envelope.specs.Made.{declaredOf, negatedOf, onWithinLimits}
 use Rattle.expression.specs.Expression.{Tag, tagNumber, tagMost, Expr}
 use Rattle.expression.specs.Evaluate.{Worth, worthOf}
 use Rattle.expression.specs.Reader.{exprAt, nodeIn}
@@ -48,7 +48,7 @@ abbrev alone : ℕ → Read (Expr × Made) → Read Node
 alone a r = mapped nodeIn (bind r (complete a))
 
 alone-placed : (x : Expr) (m : Made) (c a : ℕ) → alone a (got (x, m) c) ≡ placed (worthOf m) c a
-alone-placed x (Whole e) c a = refl
+alone-placed x (Good e) c a = refl
 alone-placed x Empty c a = refl
 alone-placed x FullRate c a = refl
 alone-placed x Outgrown c a = refl
@@ -196,7 +196,7 @@ module _ (s : List ℕ) (ws cs : List ℤ) where
 
           module _ (not-not : v ≡ tagNumber Tag.negated → ⊥) where
             -- the tags with two parts
-            two : (r : Read Node) → (v ≡ tagNumber Tag.on → alone a (run (both below Expr.on joinedOf) s c) ≡ r) → answer s ws cs d a ≡ r
+            two : (r : Read Node) → (v ≡ tagNumber Tag.on → alone a (run (both below Expr.on onWithinLimits) s c) ≡ r) → answer s ws cs d a ≡ r
             unfolding parts
             two r of-on = by-cases r go
               where
@@ -208,7 +208,7 @@ module _ (s : List ℕ) (ws cs : List ℤ) where
                 go Tag.clock e = absurd (not-clock e)
 
             pub second-refused : (number at : ℕ) → answer s ws cs (d - 1) f ≡ refused number at → answer s ws cs d a ≡ refused number at
-            second-refused number at h = two _ λ e. both-refused Expr.on joinedOf number at h
+            second-refused number at h = two _ λ e. both-refused Expr.on onWithinLimits number at h
 
-            pub of-on : (y : Node) (g : ℕ) → answer s ws cs (d - 1) f ≡ got y g → answer s ws cs d a ≡ placed (worthOf (joinedOf (x .envelope) (y .envelope))) g a
-            of-on y g h = two _ λ e. both-placed Expr.on joinedOf y g h
+            pub of-on : (y : Node) (g : ℕ) → answer s ws cs (d - 1) f ≡ got y g → answer s ws cs d a ≡ placed (worthOf (onWithinLimits (x .envelope) (y .envelope))) g a
+            of-on y g h = two _ λ e. both-placed Expr.on onWithinLimits y g h

@@ -19,12 +19,12 @@ use Rattle.field.proofs.Format.{ranged-run, signed-run}
 use Rattle.envelope.specs.declared.Envelope.{Envelope}
 use Rattle.envelope.specs.declared.Node.{Node}
 use Rattle.envelope.specs.declared.Made.{Made}
-use Rattle.envelope.specs.declared.Made.the-variants.{Whole, Empty, FullRate, Outgrown}
+use Rattle.envelope.specs.declared.Made.the-variants.{Good, Empty, FullRate, Outgrown}
 use Rattle.envelope.specs.Limits.{lMost, lowerLeast, lowerMost, upperLeast, upperMost}
-use Rattle.envelope.specs.Made.{Fields, declaredOf, negatedOf, joinedOf}
+use Rattle.envelope.specs.Made.{Fields, declaredOf, negatedOf, onWithinLimits}
 use Rattle.expression.specs.Expression.{Tag, tagNumber, Expr, depth, spell}
 use Rattle.expression.specs.Expression.Expr.{word, declared, negated, on, clock}
-use Rattle.expression.specs.Evaluate.{Worth, Worth.whole, Worth.fault, worthOf, onward, joint, listed, declaredWorth, evaluate}
+use Rattle.expression.specs.Evaluate.{Worth, Worth.good, Worth.fault, worthOf, onward, joint, listed, declaredWorth, evaluate}
 use Rattle.expression.specs.Reader.{exprAt}
 use Rattle.expression.specs.Format.{Valued, named, both, parts, kept, expression}
 use Rattle.expression.specs.Spelled.{indexes, InRange}
@@ -36,7 +36,7 @@ use Rattle.expression.proofs.Format.{complete, behind}
 
 -- an expression with its worth: what is read, or the refusal at a tag
 abbrev pub place : Expr → Worth → ℕ → ℕ → Read Valued
-place x (whole a) c tag = got (record { expr = x; node = a }) c
+place x (good a) c tag = got (record { expr = x; node = a }) c
 place x (fault number) c tag = refused number tag
 
 refused-at : {number a b : ℕ} → a ≡ b → _≡_ {A = Read Valued} (refused number a) (refused number b)
@@ -44,7 +44,7 @@ refused-at {number} e = ap (λ (t : ℕ). refused number t) e
 
 -- ---- a complete node
 kept-place : (x : Expr) (m : Made) (c a : ℕ) → settled (kept x m) c a ≡ place x (worthOf m) c (a + 0)
-kept-place x (Whole e) c a = refl
+kept-place x (Good e) c a = refl
 kept-place x Empty c a = refused-at (omega arith)
 kept-place x FullRate c a = refused-at (omega arith)
 kept-place x Outgrown c a = refused-at (omega arith)
@@ -82,15 +82,15 @@ module _ (s : List ℕ) where
         → bind (run (then part λ x. known {A = Expr × Made} (negated (x .expr), negatedOf (x .node .envelope))) s (suc a)) (complete a)
         ≡ place (negated x) (onward m λ p. worthOf (negatedOf (p .envelope))) c (a + faulty m 0 (1 + b))
     unfolding run
-    negated-met x (whole p) a b c h = rw h (kept-place (negated x) (negatedOf (p .envelope)) c a)
+    negated-met x (good p) a b c h = rw h (kept-place (negated x) (negatedOf (p .envelope)) c a)
     negated-met x (fault number) a b c h = rw h (refused-at (omega arith))
 
     both-met : (make : Expr → Expr → Expr) (rule : Envelope → Envelope → Made) (x y : Expr) (m o : Worth) (a b b′ e c size : ℕ)
         → run part s (suc a) ≡ place x m e (suc a + b) → run part s e ≡ place y o c (e + b′) → e ≡ suc a + size
         → bind (run (both part make rule) s (suc a)) (complete a) ≡ place (make x y) (joint rule m o) c (a + faultyOf m o size b b′)
     unfolding run
-    both-met make rule x y (whole p) (whole q) a b b′ e c size h k z = rw (h, k) (kept-place (make x y) (rule (p .envelope) (q .envelope)) c a)
-    both-met make rule x y (whole p) (fault number) a b b′ e c size h k z = rw (h, k) (refused-at (omega arith))
+    both-met make rule x y (good p) (good q) a b b′ e c size h k z = rw (h, k) (kept-place (make x y) (rule (p .envelope) (q .envelope)) c a)
+    both-met make rule x y (good p) (fault number) a b b′ e c size h k z = rw (h, k) (refused-at (omega arith))
     both-met make rule x y (fault number) o a b b′ e c size h k z = rw h (refused-at (omega arith))
 
 -- ---- an expression
@@ -118,7 +118,7 @@ module _ (s : List ℕ) (ws cs : List Node) (hw : length ws ≤ indexes) (hc : l
       behind s ws cs d a Tag.negated (suc a) (tag-got s Tag.negated b)
       ∙ negated-met s (expression d ws cs) x (evaluate ws cs x) a (blame ws cs x) c (answered x d (suc a) c r (omega arith) (tail b))
   answered (on x y) (suc d) a c r p b =
-      both-answered d Tag.on on joinedOf refl x y a c b (λ a c. answered x d a c (r .0) (omega arith)) (λ a c. answered y d a c (r .1) (omega arith))
+      both-answered d Tag.on on onWithinLimits refl x y a c b (λ a c. answered x d a c (r .0) (omega arith)) (λ a c. answered y d a c (r .1) (omega arith))
   answered (clock i) (suc d) a c r p b = behind s ws cs d a Tag.clock (suc a) (tag-got s Tag.clock b) ∙ named-met s clock cs i a c hc r (tail b)
 
   -- one that the rules refuse

@@ -13,7 +13,7 @@ use Rattle.field.specs.Run.{settled, run}
 use Rattle.field.proofs.Format.{then-got, Fails, Gives, gives-ranged, gives-signed}
 use Rattle.envelope.specs.declared.Node.{Node}
 use Rattle.envelope.specs.declared.Made.{Made}
-use Rattle.envelope.specs.declared.Made.the-variants.{Whole, Empty, FullRate, Outgrown}
+use Rattle.envelope.specs.declared.Made.the-variants.{Good, Empty, FullRate, Outgrown}
 use Rattle.envelope.specs.Limits.{lMost, lowerLeast, lowerMost, upperLeast, upperMost}
 use Rattle.expression.specs.Expression.{Tag, tagMost, Expr}
 use Rattle.expression.specs.Reader.{exprAt}
@@ -48,7 +48,7 @@ named-gives make xs = (tt, λ i. by i (getElem? xs i))
     by i (some x) = tt
 
 kept-gives : (x : Expr) (m : Made) → Fails Listed (kept x m)
-kept-gives x (Whole a) = tt
+kept-gives x (Good a) = tt
 kept-gives x Empty = refl
 kept-gives x FullRate = refl
 kept-gives x Outgrown = refl

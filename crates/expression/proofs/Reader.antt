@@ -16,11 +16,11 @@ use Rattle.field.proofs.Format.{read-piece, piece-read, piece-bytes, ranged-pie
 use Rattle.envelope.specs.declared.Envelope.{Envelope}
 use Rattle.envelope.specs.declared.Node.{Node}
 use Rattle.envelope.specs.declared.Made.{Made}
-use Rattle.envelope.specs.declared.Made.the-variants.{Whole, Empty, FullRate, Outgrown}
+use Rattle.envelope.specs.declared.Made.the-variants.{Good, Empty, FullRate, Outgrown}
 use Rattle.envelope.specs.Limits.{lMost, lowerLeast, lowerMost, upperLeast, upperMost}
-use Rattle.envelope.specs.Made.{joinedOf}
+use Rattle.envelope.specs.Made.{onWithinLimits}
 use Rattle.expression.specs.Expression.{Tag, tagNumber, Expr, depth, spell}
-use Rattle.expression.specs.Evaluate.{Worth, Worth.whole, worthOf, joint, listed, evaluate}
+use Rattle.expression.specs.Evaluate.{Worth, Worth.good, worthOf, joint, listed, evaluate}
 use Rattle.expression.specs.Reader.{exprAt}
 use Rattle.expression.specs.Format.{Valued, tag, found, named, both, parts, kept, expression}
 use Rattle.expression.specs.Spelled.{indexes, Spelled}
@@ -34,15 +34,15 @@ use Rattle.expression.proofs.Blame.{place, answered}
 fails-passes : {A B : Type 0} {number : ℕ} {x : A} → _≡_ {A = Judged A} (fails number) (passes x) → B
 fails-passes h = let z : _≡_ {A = ℕ} 0 1 = cc in absurd (omega arith)
 
-kept-passes : (x : Expr) (m : Made) (y : Valued) → kept x m ≡ passes y → (x ≡ y .expr) × (m ≡ Whole (y .node))
-kept-passes x (Whole a) y h =
+kept-passes : (x : Expr) (m : Made) (y : Valued) → kept x m ≡ passes y → (x ≡ y .expr) × (m ≡ Good (y .node))
+kept-passes x (Good a) y h =
     let z : _≡_ {A = Valued} (record { expr = x; node = a }) y = cc in
-    (ap (λ (v : Valued). v .expr) z, ap (λ (v : Valued). Whole (v .node)) z)
+    (ap (λ (v : Valued). v .expr) z, ap (λ (v : Valued). Good (v .node)) z)
 kept-passes x Empty y h = fails-passes h
 kept-passes x FullRate y h = fails-passes h
 kept-passes x Outgrown y h = fails-passes h
 
-found-passes : (x : Expr) (o : Option Node) (r : Expr × Made) → found x o ≡ passes r → (e : Node) × (o ≡ some e) × (_≡_ {A = Expr × Made} (x, Whole e) r)
+found-passes : (x : Expr) (o : Option Node) (r : Expr × Made) → found x o ≡ passes r → (e : Node) × (o ≡ some e) × (_≡_ {A = Expr × Made} (x, Good e) r)
 found-passes x none r h = fails-passes h
 found-passes x (some e) r h = (e, refl, cc)
 
@@ -50,7 +50,7 @@ found-passes x (some e) r h = (e, refl, cc)
 module _ (s : List ℕ) (ws cs : List Node) where
   pub record Accepted (d a : ℕ) (y : Valued) (c : ℕ) : Type 0 where
     pub shallow : depth (y .expr) ≤ d
-    pub value : evaluate ws cs (y .expr) ≡ whole (y .node)
+    pub value : evaluate ws cs (y .expr) ≡ good (y .node)
     pub bytes : AllBytes s → Bytes s a (spell (y .expr)) c
 
   -- the same of what follows the tag t, from b on
@@ -112,7 +112,7 @@ module _ (s : List ℕ) (ws cs : List Node) where
           value = rw (x .value);
           bytes = λ all a h. rw (← p .3 .1) (join h (x .bytes all));
         })
-    parts-follow Tag.on b r c p = both-follows Tag.on Expr.on joinedOf (λ x y. refl) (λ x y. refl) (λ x y. refl) b r c p
+    parts-follow Tag.on b r c p = both-follows Tag.on Expr.on onWithinLimits (λ x y. refl) (λ x y. refl) (λ x y. refl) b r c p
     parts-follow Tag.clock b r c p = named-follows d Tag.clock Expr.clock cs (λ i. refl) (λ i. refl) (λ i. refl) b r c p
 
   piece-accepted : (d a : ℕ) (y : Valued) (c : ℕ) → Piece s (expression d ws cs) a y c → Accepted d a y c

@@ -11,7 +11,7 @@ use Rattle.envelope.specs.declared.Node.{Node}
 use Rattle.envelope.specs.Stream.{Stream, Lies}
 use Rattle.envelope.specs.Envelope.{Taken}
 use Rattle.envelope.specs.Word.{wordOf}
-use Rattle.envelope.specs.Made.{joinedOf}
+use Rattle.envelope.specs.Made.{onWithinLimits}
 use Rattle.envelope.proofs.Streams.{has-lies}
 use Rattle.envelope.proofs.Normal.{normal-keeps}
 use Rattle.envelope.proofs.Not.{not-keeps}
@@ -20,11 +20,11 @@ use Rattle.envelope.proofs.Word.{word-keeps}
 use Rattle.envelope.proofs.Taken.{word-taken}
 use Rattle.expression.specs.Expression.{Word, Expr, Clock}
 use Rattle.expression.specs.Stands.{Stands, Stands.word, Stands.declared, Stands.negated, Stands.on, Stands.clock}
-use Rattle.expression.specs.Evaluate.{Worth.whole, evaluate, wordNode, wordNodes, Worked}
+use Rattle.expression.specs.Evaluate.{Worth.good, evaluate, wordNode, wordNodes, Worked}
 use Rattle.expression.specs.Inner.Nodes.{AllTaken}
 use Rattle.expression.specs.Promise.{AllLegal}
 use Rattle.expression.proofs.Lookup.{lookup-below, lookup-there, lookup-take, lookup-map}
-use Rattle.expression.proofs.Evaluated.{Result, onward-whole, joint-whole, listed-whole, declared-result, negated-result, joined-result, evaluate-taken}
+use Rattle.expression.proofs.Evaluated.{Result, onward-good, joint-good, listed-good, declared-result, negated-result, on-result, evaluate-taken}
 
 -- a stream lies in what a rule made
 made : (s : Stream) (e : Envelope) (a : Node) → Result e a → Lies s e → Lies s (a .envelope)
@@ -58,14 +58,14 @@ module _ (words : List Word) (clocks : List Clock) (xs : List Node) (w : Worked 
   earlier-taken j i a h = clocks-taken i a (lookup-take xs j i a h .1)
 
   -- what an expression over the words and the first j clocks gives
-  pub part-taken : (j : ℕ) (x : Expr) (a : Node) → evaluate ws (take j xs) x ≡ whole a → Taken (a .envelope)
+  pub part-taken : (j : ℕ) (x : Expr) (a : Node) → evaluate ws (take j xs) x ≡ good a → Taken (a .envelope)
   part-taken j x a h = evaluate-taken ws (take j xs) words-taken (earlier-taken j) x a h
 
   -- ---- what it can stand for lies in its envelope
-  pub sound : {x : Expr} {s : Stream} → Stands words clocks x s → (j : ℕ) (a : Node) → evaluate ws (take j xs) x ≡ whole a → Lies s (a .envelope)
+  pub sound : {x : Expr} {s : Stream} → Stands words clocks x s → (j : ℕ) (a : Node) → evaluate ws (take j xs) x ≡ good a → Lies s (a .envelope)
   unfolding evaluate
   sound (word {i = i} {w = u} {s = s} p b) j a h =
-      let r = lookup-map wordNode words i a (listed-whole (getElem? ws i) a h) in
+      let r = lookup-map wordNode words i a (listed-good (getElem? ws i) a h) in
       let z : r .0 ≡ u = cc (r .1, p) in
       let q : a ≡ wordNode u = r .2 ∙ ap wordNode z in
       let l : Lies s (wordOf (u .prefix) (u .period)) = has-lies s _ _ b (word-keeps (u .prefix) (u .period) (legal i u p .a-one)) in
@@ -74,21 +74,21 @@ module _ (words : List Word) (clocks : List Clock) (xs : List Node) (w : Worked 
       let r = declared-result k K l n a h in
       made s _ a (r .1) (normal-keeps k K l n (r .0 .n-least) (s .bit) p)
   sound (negated {x = x} {a = b} {s = s} p q) j a h =
-      let r = onward-whole (evaluate ws (take j xs) x) _ a h in
+      let r = onward-good (evaluate ws (take j xs) x) _ a h in
       let t = negated-result (r .0) a (part-taken j x (r .0) (r .1)) (r .2) in
       made s _ a (t .1) (has-lies s _ _ q (not-keeps b (r .0 .envelope) (t .0) (sound p j (r .0) (r .1))))
   sound (on {x = x} {y = y} {a = b} {b = c} {s = s} p q o) j a h =
-      let r = joint-whole joinedOf (evaluate ws (take j xs) x) (evaluate ws (take j xs) y) a h in
+      let r = joint-good onWithinLimits (evaluate ws (take j xs) x) (evaluate ws (take j xs) y) a h in
       let e : Envelope = r .0 .envelope in
       let f : Envelope = r .1 .envelope in
       let t : Taken e = part-taken j x (r .0) (r .2) in
       let t′ : Taken f = part-taken j y (r .1) (r .3) in
       let m : 0 < e .n * f .n = mul-pos (t .n-least) (t′ .n-least) in
-      made s _ a (joined-result (r .0) (r .1) a t t′ (r .4))
+      made s _ a (on-result (r .0) (r .1) a t t′ (r .4))
       (has-lies s _ _ o (on-keeps (b .bit) (c .bit) e f m (sound p j (r .0) (r .2)) (sound q j (r .1) (r .3))))
   sound (clock {i = i} {c = c} {s = s} p q) j a h =
       let r = w .each i c p in
-      let t = lookup-take xs j i a (listed-whole (getElem? (take j xs) i) a h) in
+      let t = lookup-take xs j i a (listed-good (getElem? (take j xs) i) a h) in
       let z : r .0 ≡ a = cc (r .1, t .1) in
       subst (λ (x : Node). Lies s (x .envelope)) z (sound q i (r .0) (r .2))
 

@@ -5,11 +5,11 @@ use lib.ListN.{length}
 use Rattle.envelope.specs.declared.Node.{Node}
 use Rattle.expression.specs.Expression.{Expr, spell}
 use Rattle.expression.specs.Expression.Expr.{word, declared, negated, on, clock}
-use Rattle.expression.specs.Evaluate.{Worth, Worth.whole, Worth.fault, evaluate}
+use Rattle.expression.specs.Evaluate.{Worth, Worth.good, Worth.fault, evaluate}
 
 -- a part that is refused is to blame before the node over it
 abbrev pub faulty : Worth → ℕ → ℕ → ℕ
-faulty (whole a) here inside = here
+faulty (good a) here inside = here
 faulty (fault number) here inside = inside
 
 -- of two parts, the first with so many bytes; each part with how far behind its own first byte

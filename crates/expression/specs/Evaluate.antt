@@ -12,26 +12,26 @@ use Rattle.field.specs.Field.{betweenZ}
 use Rattle.envelope.specs.declared.Envelope.{Envelope}
 use Rattle.envelope.specs.declared.Node.{Node}
 use Rattle.envelope.specs.declared.Made.{Made}
-use Rattle.envelope.specs.declared.Made.the-variants.{Whole, Empty, FullRate, Outgrown}
+use Rattle.envelope.specs.declared.Made.the-variants.{Good, Empty, FullRate, Outgrown}
 use Rattle.envelope.specs.Limits.{lMost, lowerLeast, lowerMost, upperLeast, upperMost}
 use Rattle.envelope.specs.Word.{wordOf}
-use Rattle.envelope.specs.Made.{numberOf, nodeOf, declaredOf, negatedOf, joinedOf}
+use Rattle.envelope.specs.Made.{numberOf, nodeOf, declaredOf, negatedOf, onWithinLimits}
 use Rattle.expression.specs.Expression.{Word, Expr, Clock}
 use Rattle.expression.specs.Expression.Expr.{word, declared, negated, on, clock}
 
 pub data Worth : Type 0 where
-  whole : Node → Worth
+  good : Node → Worth
   fault : ℕ → Worth
 
 -- what a rule makes, with the number that refuses it
 abbrev pub worthOf : Made → Worth
-worthOf (Whole x) = whole x
+worthOf (Good x) = good x
 worthOf Empty = fault (numberOf Empty)
 worthOf FullRate = fault (numberOf FullRate)
 worthOf Outgrown = fault (numberOf Outgrown)
 
 abbrev pub onward : Worth → (Node → Worth) → Worth
-onward (whole x) go = go x
+onward (good x) go = go x
 onward (fault number) go = fault number
 
 -- what a rule makes of two parts, left first
@@ -41,7 +41,7 @@ joint rule m o = onward m λ a. onward o λ b. worthOf (rule (a .envelope) (b .e
 -- "a word, earlier clock .. that isn't there"
 abbrev pub listed : Option Node → Worth
 listed none = fault absent
-listed (some x) = whole x
+listed (some x) = good x
 
 -- "k, K, l or n beyond its limit (n also above l)"
 unfoldable pub fieldsKept : ℤ → ℤ → ℕ → ℕ → Bool
@@ -56,7 +56,7 @@ unfoldable pub evaluate : List Node → List Node → Expr → Worth
 evaluate ws cs (word i) = listed (getElem? ws i)
 evaluate ws cs (declared k K l n) = declaredWorth k K l n
 evaluate ws cs (negated x) = onward (evaluate ws cs x) λ a. worthOf (negatedOf (a .envelope))
-evaluate ws cs (on x y) = joint joinedOf (evaluate ws cs x) (evaluate ws cs y)
+evaluate ws cs (on x y) = joint onWithinLimits (evaluate ws cs x) (evaluate ws cs y)
 evaluate ws cs (clock i) = listed (getElem? cs i)
 
 abbrev pub wordNode : Word → Node
@@ -68,5 +68,5 @@ wordNodes words = map wordNode words
 -- xs holds the node of each clock, worked out from those before it
 pub record Worked (words : List Word) (clocks : List Clock) (xs : List Node) : Type 0 where
   pub each : (i : ℕ) (c : Clock) → getElem? clocks i ≡ some c
-      → (x : Node) × (getElem? xs i ≡ some x) × (evaluate (wordNodes words) (take i xs) (c .expr) ≡ whole x)
+      → (x : Node) × (getElem? xs i ≡ some x) × (evaluate (wordNodes words) (take i xs) (c .expr) ≡ good x)
   pub many : length xs ≡ length clocks

@@ -9,9 +9,9 @@ use Rattle.field.specs.Format.{Judged, Judged.passes, Judged.fails, Format, For
 use Rattle.envelope.specs.declared.Envelope.{Envelope}
 use Rattle.envelope.specs.declared.Node.{Node}
 use Rattle.envelope.specs.declared.Made.{Made}
-use Rattle.envelope.specs.declared.Made.the-variants.{Whole, Empty, FullRate, Outgrown}
+use Rattle.envelope.specs.declared.Made.the-variants.{Good, Empty, FullRate, Outgrown}
 use Rattle.envelope.specs.Limits.{lMost, lowerLeast, lowerMost, upperLeast, upperMost}
-use Rattle.envelope.specs.Made.{numberOf, declaredOf, negatedOf, joinedOf}
+use Rattle.envelope.specs.Made.{numberOf, declaredOf, negatedOf, onWithinLimits}
 use Rattle.expression.specs.Expression.{Tag, tagNumber, Expr}
 
 -- an expression and its node
@@ -34,7 +34,7 @@ tag = tested (field 1) (tagOf tags)
 -- "a word, earlier clock .. that isn't there" is 5: an index, which makes an expression and names its node
 abbrev pub found : Expr → Option Node → Judged (Expr × Made)
 found x none = fails 5
-found x (some a) = passes (x, Whole a)
+found x (some a) = passes (x, Good a)
 
 abbrev pub named : (ℕ → Expr) → List Node → Format (Expr × Made)
 named make xs = tested (field 2) λ i. found (make i) (getElem? xs i)
@@ -54,12 +54,12 @@ parts ws cs part Tag.declared =
     then (ranged 4 1 (l + 1) 2) λ n.
     known {A = Expr × Made} (Expr.declared k K l n, declaredOf k K l n)
 parts ws cs part Tag.negated = then part λ x. known {A = Expr × Made} (Expr.negated (x .expr), negatedOf (x .node .envelope))
-parts ws cs part Tag.on = both part Expr.on joinedOf
+parts ws cs part Tag.on = both part Expr.on onWithinLimits
 parts ws cs part Tag.clock = named Expr.clock cs
 
 -- "7, 8 and 9 come when the node is complete", at its tag, its first byte
 abbrev pub kept : Expr → Made → Judged Valued
-kept x (Whole a) = passes (record { expr = x; node = a })
+kept x (Good a) = passes (record { expr = x; node = a })
 kept x Empty = fails (numberOf Empty)
 kept x FullRate = fails (numberOf FullRate)
 kept x Outgrown = fails (numberOf Outgrown)

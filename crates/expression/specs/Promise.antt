@@ -13,7 +13,7 @@ use Rattle.envelope.specs.Word.{LegalWord}
 use Rattle.expression.specs.declared.Value.{Value}
 use Rattle.expression.specs.Expression.{Word, Expr, Clock, depth, spell}
 use Rattle.expression.specs.Stands.{Stands}
-use Rattle.expression.specs.Evaluate.{Worth.whole, Worth.fault, evaluate, wordNodes}
+use Rattle.expression.specs.Evaluate.{Worth.good, Worth.fault, evaluate, wordNodes}
 use Rattle.expression.specs.Reader.{exprAt, valueOf}
 use Rattle.expression.specs.Format.{Valued}
 use Rattle.expression.specs.Inner.Nodes.{AllTaken}
@@ -29,13 +29,13 @@ pub record Meaning (words : List Word) (clocks : List Clock) (xs : List Node) : 
   -- every clock has a taken envelope
   pub clock-taken : AllTaken xs
   -- and so has every expression over the words and the earlier clocks that the rules give a node
-  pub taken : (j : ℕ) (x : Expr) (a : Node) → evaluate (wordNodes words) (take j xs) x ≡ whole a → Taken (a .envelope)
+  pub taken : (j : ℕ) (x : Expr) (a : Node) → evaluate (wordNodes words) (take j xs) x ≡ good a → Taken (a .envelope)
   -- what such an expression can stand for lies in its envelope
-  pub sound : (j : ℕ) (x : Expr) (a : Node) (s : Stream) → evaluate (wordNodes words) (take j xs) x ≡ whole a → Stands words clocks x s → Lies s (a .envelope)
+  pub sound : (j : ℕ) (x : Expr) (a : Node) (s : Stream) → evaluate (wordNodes words) (take j xs) x ≡ good a → Stands words clocks x s → Lies s (a .envelope)
   -- what a clock can stand for lies in the clock's envelope
   pub clock-sound : (i : ℕ) (a : Node) (s : Stream) → getElem? xs i ≡ some a → Stands words clocks (Expr.clock i) s → Lies s (a .envelope)
   -- such an expression, and every clock, can stand for some stream
-  pub some-stream : (j : ℕ) (x : Expr) (a : Node) → evaluate (wordNodes words) (take j xs) x ≡ whole a → (s : Stream) × Stands words clocks x s
+  pub some-stream : (j : ℕ) (x : Expr) (a : Node) → evaluate (wordNodes words) (take j xs) x ≡ good a → (s : Stream) × Stands words clocks x s
   pub clock-some : (i : ℕ) → i < length clocks → (s : Stream) × Stands words clocks (Expr.clock i) s
 
 -- of the reader of a text's expressions, over the nodes ws of the words and cs of the earlier clocks

@@ -7,7 +7,7 @@ use Rattle.envelope.specs.declared.Node.{Node}
 use Rattle.envelope.specs.Made.{Fields}
 use Rattle.expression.specs.Expression.{Expr, depth, spell}
 use Rattle.expression.specs.Expression.Expr.{word, declared, negated, on, clock}
-use Rattle.expression.specs.Evaluate.{Worth.whole, evaluate}
+use Rattle.expression.specs.Evaluate.{Worth.good, evaluate}
 
 -- "u16 index": so many words or clocks can be named
 abbrev pub indexes : ℕ
@@ -32,5 +32,5 @@ InRange w c (clock i) = i < c
 -- x is spelled from a to c, has at most d levels, and its node is e
 pub record Spelled (s : List ℕ) (ws cs : List Node) (d a : ℕ) (x : Expr) (e : Node) (c : ℕ) : Type 0 where
   pub shallow : depth x ≤ d
-  pub value : evaluate ws cs x ≡ whole e
+  pub value : evaluate ws cs x ≡ good e
   pub bytes : Bytes s a (spell x) c

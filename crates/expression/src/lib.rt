@@ -45,7 +45,7 @@ fn place(made: Made, c: Cursor, tag: usize) -> Value
     ensures { λ r. ⌜ valueOf r ≡ placed (worthOf made) (c .at) tag ⌝ }
 {
     match made {
-        Made::Whole(x) => Value::Got(x, c),
+        Made::Good(x) => Value::Got(x, c),
         Made::Empty => Value::Refused(reply::EMPTY, tag),
         Made::FullRate => Value::Refused(reply::FULL_RATE, tag),
         Made::Outgrown => Value::Refused(reply::OUTGROWN, tag),
@@ -158,7 +158,7 @@ pub fn evaluate(start: Cursor, s: &[u8], words: &[i32], clocks: &[i32], depth: u
             let Value::Got(y, f) = b else {
                 return b;
             };
-            place(e.joined(y.envelope), f, tag_at)
+            place(e.on_within_limits(y.envelope), f, tag_at)
         }
     }
 }

@@ -4,7 +4,7 @@ use Prim.Native.Nat.{ℕ}
 use lib.IntN.{ℤ, pos, negℤ}
 use Rattle.envelope.specs.declared.Envelope.{Envelope}
 use Rattle.envelope.specs.declared.Made.{Made}
-use Rattle.envelope.specs.declared.Made.the-variants.{Whole, Empty, FullRate, Outgrown}
+use Rattle.envelope.specs.declared.Made.the-variants.{Good, Empty, FullRate, Outgrown}
 use Rattle.envelope.specs.Envelope.{notOf, onOf}
 use Rattle.envelope.specs.Word.{wordOf}
 use Rattle.envelope.specs.Made.{numberOf, declaredOf, negatedOf}
@@ -25,7 +25,7 @@ minus n = negℤ (pos n)
 
 -- what a rule makes: "taken as" an envelope, or "refused" with a number
 abbrev pub made : Made → Figure
-made (Whole x) = envelope (x .envelope)
+made (Good x) = envelope (x .envelope)
 made Empty = refused (numberOf Empty)
 made FullRate = refused (numberOf FullRate)
 made Outgrown = refused (numberOf Outgrown)

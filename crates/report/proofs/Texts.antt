@@ -65,9 +65,9 @@ module _ (s text : List ℕ) where
     text-is =
         rw (links-is s bytes o c read f f-is t ss es tabled, table-is s bytes o c read f f-is t ss es tabled, states s bytes o c read f f-is t ss es tabled, rows-are o (o .sheet .links))
 
-    pub listed-whole : (text′ : List ℕ) (r : Listed) → (r ≡ fitted readText (length text)) × (text′ ≡ over readText text) → ListsInto s text r text′
+    pub listed-good : (text′ : List ℕ) (r : Listed) → (r ≡ fitted readText (length text)) × (text′ ≡ over readText text) → ListsInto s text r text′
     unfolding listedOf textAfter
-    listed-whole text′ r h =
+    listed-good text′ r h =
         record {
           answer-is = rw read (h .0 ∙ ap (λ (x : List ℕ). fitted x (length text)) text-is);
           text-is = rw read (h .1 ∙ ap (λ (x : List ℕ). over x text) text-is);

@@ -128,7 +128,7 @@ fn put_links(
 }
 
 // The sheet whose nodes, states and links' ends are in the tables.
-fn put_whole(out: &mut [u8], table: &[i32], states: &[u8], ends: &[u8], n: usize) -> usize
+fn put_sheet(out: &mut [u8], table: &[i32], states: &[u8], ends: &[u8], n: usize) -> usize
     requires { ⌜ Ready (now table) (now states) (now ends) n ⌝ }
     ensures { λ r. ⌜ Put (now (out .entry)) 0 (tableText (now (table .entry)) (now (states .entry)) (now (ends .entry))) (now (out .exit)) r ⌝ }
 {
@@ -145,17 +145,17 @@ pub enum Listed {
 }
 
 // An empty buffer measures the text.
-fn list_whole(table: &[i32], states: &[u8], ends: &[u8], n: usize, text: &mut [u8]) -> Listed
+fn list_read(table: &[i32], states: &[u8], ends: &[u8], n: usize, text: &mut [u8]) -> Listed
     requires { ⌜ Ready (now table) (now states) (now ends) n ⌝ }
     ensures listed { λ r. ⌜ r ≡ fitted (tableText (now (table .entry)) (now (states .entry)) (now (ends .entry))) (length (now (text .entry))) ⌝ }
     ensures text { λ _. ⌜ now (text .exit) ≡ over (tableText (now (table .entry)) (now (states .entry)) (now (ends .entry))) (now (text .entry)) ⌝ }
 {
     let mut none = [0u8; 0];
-    let need = put_whole(&mut none, table, states, ends, n);
+    let need = put_sheet(&mut none, table, states, ends, n);
     if text.len() < need {
         return Listed::Refused(reply::SHORT_RESULT, 0);
     }
-    put_whole(text, table, states, ends, n);
+    put_sheet(text, table, states, ends, n);
     Listed::Text(need)
 }
 
@@ -173,7 +173,7 @@ pub fn list(sheet: &[u8], text: &mut [u8]) -> Listed
             let n = f.links;
             let nodes = PER_NODE * m;
             let pairs = 2 * n;
-            list_whole(&table[..nodes], &states[..m], &ends[..pairs], n, text)
+            list_read(&table[..nodes], &states[..m], &ends[..pairs], n, text)
         }
     }
 }

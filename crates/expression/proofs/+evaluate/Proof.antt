@@ -19,7 +19,7 @@ use Rattle.expression.proofs.Answers.{answer, answer-taken, tag-refused
 use Rattle.expression.proofs.evaluate.Reads as evaluate
 use Rattle.expression.proofs.evaluate.Kinds as evaluate-kinds
 use Rattle.expression.proofs.+evaluate.Lts-evaluate as evaluate-lts
-use Rattle.envelope.proofs.Envelope.joined.Reads as joined-reads
+use Rattle.envelope.proofs.Envelope.on_within_limits.Reads as on-reads
 use Rattle.envelope.proofs.Envelope.negated.Reads as negated-reads
 use Rattle.expression.proofs.declared.Reads as declared-reads
 use Rattle.expression.proofs.listed.Reads as listed-reads
@@ -51,8 +51,8 @@ calls t = (
   negated-reads.Learnt,
   place-reads.Asked,
   place-reads.Learnt,
-  joined-reads.Asked,
-  joined-reads.Learnt,
+  on-reads.Asked,
+  on-reads.Learnt,
 )
 
 module _ (t : ℕ) where
@@ -208,8 +208,8 @@ module _ (t : ℕ) where
       (second-refused _ _ _ _ _ _ (tag-read (past-tag p)) _ (levels p) (not-word p) (not-declared p) (not-clock p) _ _ (first-read p) (c .before .before .before .if5 .left) _ _
       (sym (c .before .before .evaluate2 .ensures) ∙ refusal))
 
-  evaluate-joined-requires : evaluate-lts.Need-joined-requires (calls t) (evaluate-at t) evaluate.Post
-  evaluate-joined-requires c κs = (first-taken (past-first c), second-taken c)
+  evaluate-on-within-limits-requires : evaluate-lts.Need-on-within-limits-requires (calls t) (evaluate-at t) evaluate.Post
+  evaluate-on-within-limits-requires c κs = (first-taken (past-first c), second-taken c)
 
   evaluate-place-requires-2 : evaluate-lts.Need-place-requires-2 (calls t) (evaluate-at t) evaluate.Post
   evaluate-place-requires-2 c κs = search needs
@@ -221,7 +221,7 @@ module _ (t : ℕ) where
   evaluate-returns-9 c =
       let q = c .before .before in
       let p = past-first q in
-      rw (c .place2 .ensures, c .before .joined .ensures)
+      rw (c .place2 .ensures, c .before .on-within-limits .ensures)
       (sym (of-on _ _ _ _ _ _ (tag-read (past-tag p)) _ (levels p) (not-word p) (not-declared p) (not-clock p) _ _ (first-read p) (q .before .before .before .before .if5 .left) _ _ (second-read q)))
 
 pub +evaluate-spec : {M : Type 1} → statement M
@@ -252,7 +252,7 @@ pub +evaluate-spec : {M : Type 1} → statement M
     (evaluate-enum-known-b t)
     (evaluate-enum-told-2 t)
     (evaluate-returns-7 t)
-    (evaluate-joined-requires t)
+    (evaluate-on-within-limits-requires t)
     (evaluate-place-requires-2 t)
     (evaluate-returns-8 t)
     (evaluate-returns-9 t)

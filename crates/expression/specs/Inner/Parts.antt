@@ -8,12 +8,12 @@ use Rattle.field.specs.Read.{Read, Read.got, Read.refused, bind}
 use Rattle.field.specs.Field.{fieldIn, signedIn}
 use Rattle.envelope.specs.declared.Node.{Node}
 use Rattle.envelope.specs.Limits.{lMost, lowerLeast, lowerMost, upperLeast, upperMost}
-use Rattle.expression.specs.Evaluate.{Worth, Worth.whole, Worth.fault, declaredWorth}
+use Rattle.expression.specs.Evaluate.{Worth, Worth.good, Worth.fault, declaredWorth}
 use Rattle.expression.specs.Inner.Nodes.{nodeAt}
 
 -- a complete node, or its refusal at the tag
 abbrev pub placed : Worth → ℕ → ℕ → Read Node
-placed (whole x) c tag = got x c
+placed (good x) c tag = got x c
 placed (fault number) c tag = refused number tag
 
 unfoldable pub listedAt : List ℕ → List ℤ → ℕ → Read Node

@@ -12,8 +12,8 @@ use Rattle.sheet.specs.Sheet.{clocksMost, linksMost}
 use Rattle.sheet.specs.Reader.{readSheet}
 use Rattle.sheet.specs.SheetRead.{SheetRead}
 use Rattle.sheet.specs.Inner.Sections.{foundOf}
-use Rattle.sheet.proofs.Tables.Outcome.{reading-refused, reading-whole, clocks-few, links-few, ready}
-use Rattle.report.proofs.Texts.{listed-refused, listed-whole}
+use Rattle.sheet.proofs.Tables.Outcome.{reading-refused, reading-got, clocks-few, links-few, ready}
+use Rattle.report.proofs.Texts.{listed-refused, listed-good}
 use borrow.Author.Needs.{needs}
 use Rattle.report.proofs.list.Statement.{statement}
 use Rattle.report.proofs.list.Tie as tie
@@ -21,7 +21,7 @@ use Rattle.report.proofs.list.Tie as tie
 -- the sheet that was read, and that its rows are in the tables
 module _ (c : tie.After-known-told2) where
   whole : (o : SheetRead) × (d : ℕ) × (readSheet (now (c .before .before .before .before .before .before .before .before .before .before .before .before .args .sheet)) ≡ got o d) × (foundOf o ≡ c .before .f .given .0 .0)
-  whole = reading-whole _ _ (sym (c .before .f .given .1) ∙ c .before .before .before .before .before .before .read .ensures .0)
+  whole = reading-got _ _ (sym (c .before .f .given .1) ∙ c .before .before .before .before .before .before .read .ensures .0)
 
   bytes : AllBytes (now (c .before .before .before .before .before .before .before .before .before .before .before .before .args .sheet))
   bytes j = c .before .before .before .before .before .before .before .before .before .before .before .shared-slice-known .given j .fits
@@ -41,8 +41,8 @@ module _ (c : tie.After-known-told2) where
   ends-fit : 2 * c .before .f .given .0 .0 .links ≤ length (c .before .before .before .before .before .before .read .last .1 .1 .1 .0)
   ends-fit = omega (arith, few-links, c .before .before .before .before .before .before .read .kept .1 .1 .1 .0)
 
-list-whole-requires : tie.Need-list-whole-requires
-list-whole-requires c κs =
+list-read-requires : tie.Need-list-read-requires
+list-read-requires c κs =
     let k = c .before .before .before .before in
     let w = whole k in
     ready _ (bytes k) (w .0) (w .1) (w .2) _ (w .3) _ _ _ (k .before .before .before .before .before .before .read .ensures .1)
@@ -55,7 +55,7 @@ returns-2 c =
     let l = c .before .before in
     let k = l .before .before .before .before .before in
     let w = whole k in
-    listed-whole _ _ (bytes k) (w .0) (w .1) (w .2) _ (w .3) _ _ _ (k .before .before .before .before .before .before .read .ensures .1) _ _ (l .list-whole .ensures)
+    listed-good _ _ (bytes k) (w .0) (w .1) (w .2) _ (w .3) _ _ _ (k .before .before .before .before .before .before .read .ensures .1) _ _ (l .list-read .ensures)
 
 pub list-spec : {M : Type 1} → statement M
 list-spec =
@@ -75,7 +75,7 @@ list-spec =
     (λ c. sym (length-take-le _ _ (states-fit (c .before .before))))
     (λ c. ends-fit (c .before .before))
     (λ c. sym (length-take-le _ _ (ends-fit (c .before .before .before))))
-    list-whole-requires
+    list-read-requires
     returns
     (λ c. search needs)
     returns-2)

@@ -49,8 +49,8 @@ module _ (s : List ℕ) (r : Reading) (told : r ≡ readingOf (readSheet s)) whe
           let b : p ≡ place = cc in
           rw (a, b)
 
-  read-whole : (f : Found) → r ≡ Reading.Got f → (o : SheetRead) × (c : ℕ) × (readSheet s ≡ got o c) × (f ≡ foundOf o)
-  read-whole f e = go (readSheet s) refl (sym e ∙ told)
+  read-got : (f : Found) → r ≡ Reading.Got f → (o : SheetRead) × (c : ℕ) × (readSheet s ≡ got o c) × (f ≡ foundOf o)
+  read-got f e = go (readSheet s) refl (sym e ∙ told)
     where
       go : (x : Read SheetRead) → readSheet s ≡ x → Reading.Got f ≡ readingOf x → (o : SheetRead) × (c : ℕ) × (readSheet s ≡ got o c) × (f ≡ foundOf o)
       go (got o c) h q = (o, c, h, cc)
@@ -64,7 +64,7 @@ module _ (s : List ℕ) (r : Reading) (told : r ≡ readingOf (readSheet s)) whe
     pub find-absent : f .clocks ≤ i → refused noClock 0 ≡ mapped placeOf (locatedIn s i)
     unfolding locatedIn
     find-absent few =
-        let w = read-whole f is in
+        let w = read-got f is in
         let o = sheet-reads s bytes (w .0) (w .1) (w .2) in
         let n : f .clocks ≡ length (w .0 .table) = ap (λ (x : Found). x .clocks) (w .3) in
         rw (w .2, past-the-last (w .0 .sheet .clocks) i (omega (arith, o .worked .many)))
@@ -72,7 +72,7 @@ module _ (s : List ℕ) (r : Reading) (told : r ≡ readingOf (readSheet s)) whe
     pub find-chosen : i < f .clocks → Chosen s (f .clockrows) i
     unfolding clockPlace rows
     find-chosen lt =
-        let w = read-whole f is in
+        let w = read-got f is in
         let o = sheet-reads s bytes (w .0) (w .1) (w .2) in
         let n : f .clocks ≡ length (w .0 .table) = ap (λ (x : Found). x .clocks) (w .3) in
         let b : f .clockrows ≡ length (section spellWord (w .0 .sheet .words)) + 2 = ap (λ (x : Found). x .clockrows) (w .3) in

@@ -13,7 +13,7 @@ use Rattle.field.proofs.Spelling.{join, first}
 use Rattle.field.proofs.Fields.{byteIn-bytes, byteIn-got}
 use Rattle.envelope.specs.declared.Node.{Node}
 use Rattle.expression.specs.Expression.{Clock, depthMost, spellClock}
-use Rattle.expression.specs.Evaluate.{Worth.whole, Worth.fault, evaluate}
+use Rattle.expression.specs.Evaluate.{Worth.good, Worth.fault, evaluate}
 use Rattle.expression.specs.Reader.{exprAt}
 use Rattle.expression.specs.Spelled.{indexes, InRange, Spelled}
 use Rattle.expression.specs.Blame.{blame}
@@ -27,7 +27,7 @@ use Rattle.sheet.proofs.Spelling.Rows.{same-got}
 -- a clock that is legal, with the node that the rules give it after those of rows
 pub record ClockMade (ws : List Node) (rows : List ClockNode) (r : ClockNode) : Type 0 where
   pub legal : ClockRow (r .clock)
-  pub value : evaluate ws (map nodeOfClock rows) (r .clock .expr) ≡ whole (r .node)
+  pub value : evaluate ws (map nodeOfClock rows) (r .clock .expr) ≡ good (r .node)
 
 pub clock-reads : (s : List ℕ) → AllBytes s → (ws : List Node) (rows : List ClockNode) (a : ℕ) (r : ClockNode) (c : ℕ) → clockAt s ws rows a ≡ got r c
     → ClockMade ws rows r × Bytes s a (spellClock (clockOf r)) c

@@ -7,7 +7,7 @@ use native.Mathlib.Omega.{arith}
 use lib.ListN.{length, take, getElem?, length-map}
 use Rattle.envelope.specs.declared.Node.{Node}
 use Rattle.expression.specs.Expression.{Word, Clock}
-use Rattle.expression.specs.Evaluate.{Worth.whole, evaluate, wordNodes, Worked}
+use Rattle.expression.specs.Evaluate.{Worth.good, evaluate, wordNodes, Worked}
 use Rattle.expression.proofs.Lookup.{none-some, lookup-map}
 use Rattle.sheet.specs.Sheet.{Every, Each, ClockRow}
 use Rattle.sheet.specs.SheetRead.{ClockNode, clockOf, nodeOfClock}
@@ -79,5 +79,5 @@ worked-rows words cs xs w l = at-each (ClockMade (wordNodes words)) [] zs each
         let earlier : map nodeOfClock (take i zs) ≡ take i xs = map-take nodeOfClock zs i ∙ ap (take i) (together-nodes cs xs (w .many)) in
         record {
           legal = every-at ClockRow cs i (z .clock) l p;
-          value = ap (λ (ys : List Node). evaluate (wordNodes words) ys (z .clock .expr)) earlier ∙ r .2 ∙ ap whole e;
+          value = ap (λ (ys : List Node). evaluate (wordNodes words) ys (z .clock .expr)) earlier ∙ r .2 ∙ ap good e;
         }

@@ -40,9 +40,9 @@ reading-refused (refused k q) number place e =
     let w : q ≡ place = cc in
     ap₂ {A = ℕ} {B = ℕ} {C = Read SheetRead} (λ (x y : ℕ). refused x y) z w
 
-pub reading-whole : (X : Read SheetRead) (f : Found) → Reading.Got f ≡ readingOf X → (o : SheetRead) × (c : ℕ) × (X ≡ got o c) × (foundOf o ≡ f)
-reading-whole (got o c) f e = (o, c, refl, cc)
-reading-whole (refused number place) f e =
+pub reading-got : (X : Read SheetRead) (f : Found) → Reading.Got f ≡ readingOf X → (o : SheetRead) × (c : ℕ) × (X ≡ got o c) × (foundOf o ≡ f)
+reading-got (got o c) f e = (o, c, refl, cc)
+reading-got (refused number place) f e =
     let z : _≡_ {A = ℕ} 0 1 = cc in
     absurd (omega arith)
 
@@ -171,13 +171,13 @@ module _ (t : List ℤ) (ss es : List ℕ) (n : ℕ) (ready : Ready t ss es n) (
         given-by r x l λ o nodes states links many few c.
         (refused shortResult 0, rw (le-leb (4 * length (o .table)) (length x) (omega (arith, many)), lt-leb (3 * length (o .sheet .links)) (length l) (omega (arith, few))), e, refl, refl)
 
-    pub given-whole : 3 * n ≤ length l → (q : Rooms) (x′ l′ : List ℤ)
+    pub given-all : 3 * n ≤ length l → (q : Rooms) (x′ l′ : List ℤ)
         → x′ ≡ flatten clockNumbers (nodesIn t) ++ drop (4 * length ss) x
         → q ≡ roomsOver (rowsIn (nodesIn t) ss (linksOf es))
         → l′ ≡ flatten linkNumbers (rowsIn (nodesIn t) ss (linksOf es)) ++ drop (3 * n) l
         → Given t ss es x l (record { number = 0; place = 0; clocks = length ss; links = n; opened = q .opened; whole = q .whole }) x′ l′
     unfolding openRoom wholeRoom
-    given-whole h q x′ l′ p e d =
+    given-all h q x′ l′ p e d =
         given-by _ x′ l′ λ o nodes states links many few c.
         let rows : rowsIn (nodesIn t) ss (linksOf es) ≡ rowsOf o = rw (nodes, states, links) (rows-are o (o .sheet .links)) in
         let sums : q ≡ roomsOver (rowsOf o) = e ∙ ap roomsOver rows in (

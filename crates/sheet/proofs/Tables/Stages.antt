@@ -70,9 +70,9 @@ module _ (s : List ℕ) (first a m : ℕ) (q : Field) (es : List ℕ) (told : Li
     unfolding linksOn
     links-past k ws rows e = rw (links-read rows e, ne-eqb (c .at) (length s) k) (refl, tt)
 
-    pub links-whole : c .at ≡ length s → ToEnd s first a m (Reading.Got (record { clocks = m; links = n; clockrows = first })) es
+    pub links-got : c .at ≡ length s → ToEnd s first a m (Reading.Got (record { clocks = m; links = n; clockrows = first })) es
     unfolding linksOn
-    links-whole k ws rows e =
+    links-got k ws rows e =
         let many : m ≡ length (map nodeOfClock rows) = sym e ∙ sym (length-map rows nodeOfClock) in
         let found : _≡_ {A = Reading} (Reading.Got (record { clocks = m; links = n; clockrows = first })) (readingFrom first (got (asRead ws rows (links .0)) (c .at))) =
         (λ i. Reading.Got (record { clocks = many i; links = sym (links .2) i; clockrows = first })) in

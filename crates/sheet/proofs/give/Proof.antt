@@ -2,7 +2,7 @@
 use native.Mathlib.Omega.{arith}
 use borrow.Author.Needs.{needs}
 use denote.Ref.{now}
-use Rattle.sheet.proofs.Tables.Outcome.{short-clocks, short-links, given-whole}
+use Rattle.sheet.proofs.Tables.Outcome.{short-clocks, short-links, given-all}
 use Rattle.sheet.proofs.give.Statement.{statement}
 use Rattle.sheet.proofs.give.Tie as tie
 
@@ -23,7 +23,7 @@ returns-3 c =
     let k = w .before .before .before in
     let i = k .before .before in
     let a = i .before .before .before .before in
-    given-whole _ _ _ _ (a .pre) (now (a .args .clocks)) (now (a .args .links)) (i .before .if1 .left) (i .if2 .left) (w .fill-links .result) _ _ (k .fill-clocks .ensures) (w .fill-links .ensures .0) (w .fill-links .ensures .1)
+    given-all _ _ _ _ (a .pre) (now (a .args .clocks)) (now (a .args .links)) (i .before .if1 .left) (i .if2 .left) (w .fill-links .result) _ _ (k .fill-clocks .ensures) (w .fill-links .ensures .0) (w .fill-links .ensures .1)
 
 pub give-spec : {M : Type 1} → statement M
 give-spec =

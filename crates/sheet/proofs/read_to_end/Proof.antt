@@ -1,6 +1,6 @@
 -- `read_to_end` meets its contract: the links' reader decides, and then the end. Assumes nothing.
 use borrow.Author.Needs.{needs}
-use Rattle.sheet.proofs.Tables.Stages.{links-refused, links-past, links-whole}
+use Rattle.sheet.proofs.Tables.Stages.{links-refused, links-past, links-got}
 use Rattle.sheet.proofs.read_to_end.Statement.{statement}
 use Rattle.sheet.proofs.read_to_end.Tie as tie
 
@@ -17,7 +17,7 @@ returns-2 c =
 returns-3 : tie.Need-returns-3
 returns-3 c =
     let n = c .before .before in
-    links-whole _ _ _ _ _ _ (n .before .before .before .before .read-links .ensures) _ _ (n .n .given .1) (c .if1 .left)
+    links-got _ _ _ _ _ _ (n .before .before .before .before .read-links .ensures) _ _ (n .n .given .1) (c .if1 .left)
 
 pub read-to-end-spec : {M : Type 1} → statement M
 read-to-end-spec =

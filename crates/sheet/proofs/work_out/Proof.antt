@@ -13,14 +13,14 @@ use Rattle.sheet.specs.Sheet.{clocksMost, linksMost}
 use Rattle.sheet.specs.Reader.{readSheet}
 use Rattle.sheet.specs.SheetRead.{SheetRead}
 use Rattle.sheet.specs.Inner.Sections.{foundOf}
-use Rattle.sheet.proofs.Tables.Outcome.{reading-refused, reading-whole, out-refused, not-read, clocks-few, links-few, ready, out-given}
+use Rattle.sheet.proofs.Tables.Outcome.{reading-refused, reading-got, out-refused, not-read, clocks-few, links-few, ready, out-given}
 use Rattle.sheet.proofs.work_out.Statement.{statement}
 use Rattle.sheet.proofs.work_out.Tie as tie
 
 -- the sheet that was read, and that its rows are in the tables
 module _ (c : tie.After-known-told2) where
   whole : (o : SheetRead) × (d : ℕ) × (readSheet (now (c .before .before .before .before .before .before .before .before .before .before .before .args .sheet)) ≡ got o d) × (foundOf o ≡ c .before .f .given .0 .0)
-  whole = reading-whole _ _ (sym (c .before .f .given .1) ∙ c .before .before .before .before .before .before .read .ensures .0)
+  whole = reading-got _ _ (sym (c .before .f .given .1) ∙ c .before .before .before .before .before .before .read .ensures .0)
 
   bytes : AllBytes (now (c .before .before .before .before .before .before .before .before .before .before .before .args .sheet))
   bytes j = c .before .before .before .before .before .before .before .before .before .before .shared-slice-known .given j .fits

@@ -8,7 +8,7 @@ use native.Mathlib.Omega.{arith}
 use lib.IntN.{ℤ}
 use mir.Facts.{toZ-ofZ}
 use Rattle.envelope.specs.declared.Envelope.{Envelope}
-use Rattle.envelope.specs.declared.Made.the-variants.{Whole, Empty}
+use Rattle.envelope.specs.declared.Made.the-variants.{Good, Empty}
 use Rattle.envelope.specs.Limits.{lMost}
 use Rattle.envelope.specs.Envelope.{Limits, hasRoom, normalOf}
 use Rattle.envelope.specs.Made.{Fields, nodeOf, declaredOf}
@@ -23,11 +23,11 @@ ready k K l n e f p =
     rw p (m, q .0, omega (arith, q .1, m .l-most))
 
 -- the test decides
-by : (k K : ℤ) (l n : ℕ) (e : Envelope) (b r : Bool) → e ≡ normalOf k K l n → r ≡ hasRoom e → r ≡ b → cond b (Whole (nodeOf e)) Empty ≡ declaredOf k K l n
+by : (k K : ℤ) (l n : ℕ) (e : Envelope) (b r : Bool) → e ≡ normalOf k K l n → r ≡ hasRoom e → r ≡ b → cond b (Good (nodeOf e)) Empty ≡ declaredOf k K l n
 unfolding declaredOf
 by k K l n e b r p q s =
-    ap (λ (x : Bool). cond x (Whole (nodeOf e)) Empty) (sym s ∙ q)
-    ∙ ap (λ (f : Envelope). cond (hasRoom f) (Whole (nodeOf f)) Empty) p
+    ap (λ (x : Bool). cond x (Good (nodeOf e)) Empty) (sym s ∙ q)
+    ∙ ap (λ (f : Envelope). cond (hasRoom f) (Good (nodeOf f)) Empty) p
 
 -- what `normal` made
 made : (c : tie.After-normal) → c .normal .result ≡ normalOf (c .before .args .k) (c .before .args .K) (c .before .args .l) (c .before .args .n)

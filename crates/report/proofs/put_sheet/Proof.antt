@@ -1,10 +1,10 @@
--- `put_whole` meets its contract: its parts are put one after another. Assumes nothing.
+-- `put_sheet` meets its contract: its parts are put one after another. Assumes nothing.
 use borrow.Author.Needs.{needs}
 use denote.Ref.{now}
 use Rattle.expression.specs.Inner.Nodes.{nodesIn}
 use Rattle.report.proofs.Texts.{whole-put}
-use Rattle.report.proofs.put_whole.Statement.{statement}
-use Rattle.report.proofs.put_whole.Tie as tie
+use Rattle.report.proofs.put_sheet.Statement.{statement}
+use Rattle.report.proofs.put_sheet.Tie as tie
 
 returns : tie.Need-returns
 returns c =
@@ -13,8 +13,8 @@ returns c =
     let a = k .before .before .before .before .before .args in
     whole-put (now (a .states)) (nodesIn (now (a .table))) _ _ _ _ _ _ _ _ (l .put-links .result) (k .put-clocks .ensures) (l .put-links .ensures) (c .before .before .put-room .ensures)
 
-pub put-whole-spec : {M : Type 1} → statement M
-put-whole-spec =
+pub put-sheet-spec : {M : Type 1} → statement M
+put-sheet-spec =
     tie.close
     (tie.spec
     (λ c κs. let p = c .before .before .before .before .pre in record { table = p .table; many = p .many; few = p .few-clocks })
