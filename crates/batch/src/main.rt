@@ -13,7 +13,7 @@ use field::put_low_first;
 use pattern::Answer;
 use register::Closing;
 use report::Listed;
-use sheet::Reply as Worked;
+use sizing::Reply as Worked;
 
 // The most bytes of a sheet or a pattern.
 const BODY: usize = 40_000;
@@ -96,7 +96,7 @@ fn put_worked(out: &mut [u8], r: Worked)
 fn worked_out(sheet: &[u8], clocks: &mut [i64], links: &mut [i64], out: &mut [u8]) -> Turn
     requires { ⌜ (length (now clocks) ≤ 1024) × (length (now links) ≤ 1024) × (length (now out) ≡ 65553) ⌝ }
 {
-    let r = sheet::work_out(sheet, clocks, links);
+    let r = sizing::work_out(sheet, clocks, links);
     put_worked(out, r);
     let next = put_all(out, 41, clocks);
     let end = put_all(out, next, links);

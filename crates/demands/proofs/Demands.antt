@@ -17,18 +17,18 @@ use Rattle.pattern.specs.declared.Answer.the-variants.{Refused}
 use Rattle.pattern.specs.Answer.{written, checkAnswer, firstAnswer, firstBytes, nextAnswer, nextBytes}
 use Rattle.link.proofs.Links.{links}
 use Rattle.pattern.proofs.Promises.{patterns}
-use Rattle.sheet.specs.declared.Reply.{Reply}
+use Rattle.sizing.specs.declared.Reply.{Reply}
 use Rattle.sheet.specs.Reader.{readSheet}
 use Rattle.sheet.specs.SheetRead.{SheetRead}
-use Rattle.sheet.specs.Rooms.{rowsOf}
-use Rattle.sheet.specs.WorkOut.{workedOf, replyOf, linkNumbers, flatten, clocksOut, linksOut, WorksOut}
-use Rattle.sheet.specs.Format.{Passed, WorkRefused}
+use Rattle.sizing.specs.Rooms.{rowsOf}
+use Rattle.sizing.specs.WorkOut.{workedOf, replyOf, linkNumbers, flatten, clocksOut, linksOut, WorksOut}
+use Rattle.sheet.specs.Format.{Passed}
+use Rattle.sizing.specs.Table.{WorkRefused}
 use Rattle.sheet.proofs.Refusing.Format.{listed-refused, passed-accepted, one-passed, passed-or-refused, never-both}
 use Rattle.sheet.proofs.Refusing.Format as Format
 use Rattle.sheet.proofs.Refusing.Numbers.{one-to-ten}
-use Rattle.sheet.proofs.Refusing.Table.{worked-listed, listed-worked, worked-passed, passed-worked}
-use Rattle.sheet.proofs.Served.{meant}
-use Rattle.sheet.proofs.Promise.{served}
+use Rattle.sizing.proofs.Table.{worked-listed, listed-worked, worked-passed, passed-worked}
+use Rattle.sizing.proofs.Served.{meant, served}
 use Rattle.register.specs.Closing.{closingOf, closingReply, closingNumber, closedBytes}
 use Rattle.register.specs.Quoting.{quotingOf, quotedFrom, quotedPart, quoteReply}
 use Rattle.register.proofs.Table.{closing-exactly, quoting-exactly}

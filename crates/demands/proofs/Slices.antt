@@ -14,8 +14,8 @@ use Rattle.link.specs.declared.Verdict.the-variants.{Accepted, Rates, Early}
 use Rattle.link.specs.Link.{verdictNumber, sizeIn}
 use Rattle.sheet.specs.Sheet.{Link}
 use Rattle.sheet.specs.SheetRead.{SheetRead}
-use Rattle.sheet.specs.Rooms.{rowOf, verdictIn}
-use Rattle.sheet.specs.WorkOut.{linkNumbers, flatten}
+use Rattle.sizing.specs.Rooms.{rowOf, verdictIn}
+use Rattle.sizing.specs.WorkOut.{linkNumbers, flatten}
 use Rattle.sheet.specs.Format.{Passed}
 use Rattle.sheet.proofs.Refusing.Format.{passed-accepted}
 use Rattle.report.specs.declared.Listed.{Listed}

@@ -5,12 +5,12 @@
 --     sheet/specs/{Sheet, SheetRead, Format}
 --   envelopes and their rules: whole/specs/{Rounding, Euclid, Order}, envelope/specs/{Limits, Envelope, Word, Made}, expression/specs/Evaluate
 --   streams and what a clock can stand for: envelope/specs/Stream, expression/specs/Stands
---   links, rooms and the result slices: link/specs/{Link, Promise}, sheet/specs/{Rooms, WorkOut, Promise}
+--   links, rooms and the result slices: link/specs/{Link, Promise}, sizing/specs/{Rooms, Table, WorkOut, Promise}
 --   closing and quoting: register/specs/{Closing, Table, Promise}
 --   patterns: pattern/specs/{Step, Pattern, Beginning, Table, Walk}
 --   the listing: line/specs/{Letters, Text}, report/specs/{Listing, Table}
 --   "fixed": demands/specs/Entry
--- and the types that are passed, in the src/ of envelope, link, pattern, register, report and sheet.
+-- and the types that are passed, in the src/ of envelope, link, pattern, register, report and sizing.
 -- The contracts of the entry points need not be believed: the fields say what each gives, both ways. src/lib.rt has each entry point behind its contract.
 -- What only inner functions and proofs use stands in specs/Inner.
 -- That every function ends and never does anything undefined is part of every contract's proof and needs no statement.
@@ -37,13 +37,14 @@ use Rattle.pattern.specs.Table.{Unfit, Refuses}
 use Rattle.pattern.specs.Walk.{Walks}
 use Rattle.expression.specs.Expression.{Expr}
 use Rattle.expression.specs.Stands.{Stands}
-use Rattle.sheet.specs.declared.Reply.{Reply}
+use Rattle.sizing.specs.declared.Reply.{Reply}
 use Rattle.sheet.specs.Sheet.{Link}
 use Rattle.sheet.specs.SheetRead.{SheetRead}
-use Rattle.sheet.specs.Format.{Refused as SheetRefused, Passed, WorkRefused}
-use Rattle.sheet.specs.Rooms.{rowOf, rowsOf, openRoom, wholeRoom}
-use Rattle.sheet.specs.WorkOut.{clockNumbers, linkNumbers, flatten, WorksOut}
-use Rattle.sheet.specs.Promise.{StreamOf}
+use Rattle.sheet.specs.Format.{Refused as SheetRefused, Passed}
+use Rattle.sizing.specs.Table.{WorkRefused}
+use Rattle.sizing.specs.Rooms.{rowOf, rowsOf, openRoom, wholeRoom}
+use Rattle.sizing.specs.WorkOut.{clockNumbers, linkNumbers, flatten, WorksOut}
+use Rattle.sizing.specs.Promise.{StreamOf}
 use Rattle.register.specs.declared.Closing.{Closing}
 use Rattle.register.specs.declared.QuoteReply.{QuoteReply}
 use Rattle.register.specs.Closing.{closingNumber, closingPlace, Closes}

@@ -1,7 +1,8 @@
 // The entry points, each behind the contract that specs/Demands.antt speaks of. The functions here only call them: were a contract below weaker
 // than the record that stands here, this crate would not be proved.
-ghost use Rattle.pattern.specs.Answer.{given, Checks, Firsts, Nexts};
-ghost use Rattle.sheet.specs.WorkOut.{WorksOut};
+ghost use Rattle.envelope.specs.Envelope.{numbers};
+ghost use Rattle.pattern.specs.Answer.{Checks, Firsts, Nexts};
+ghost use Rattle.sizing.specs.WorkOut.{WorksOut};
 ghost use Rattle.register.specs.Closing.{Closes};
 ghost use Rattle.register.specs.Quoting.{Quotes, RepliesTo};
 ghost use Rattle.report.specs.Listing.{ListsInto};
@@ -9,12 +10,12 @@ use pattern::Answer;
 use register::Closing;
 use register::QuoteReply;
 use report::Listed;
-use sheet::Reply;
+use sizing::Reply;
 
 pub fn work_out(sheet: &[u8], clocks: &mut [i64], links: &mut [i64]) -> Reply
     ensures { λ r. ⌜ WorksOut (now (sheet .entry)) (now (clocks .entry)) (now (links .entry)) r (now (clocks .exit)) (now (links .exit)) ⌝ }
 {
-    sheet::work_out(sheet, clocks, links)
+    sizing::work_out(sheet, clocks, links)
 }
 
 pub fn close(sheet: &mut [u8], clock: usize) -> Closing
@@ -42,19 +43,19 @@ pub fn list(sheet: &[u8], text: &mut [u8]) -> Listed
 }
 
 pub fn check(k: i64, K: i64, l: u64, n: u64, pattern: &[u8]) -> Answer
-    ensures { λ r. ⌜ Checks (given k K l n) (now (pattern .entry)) r ⌝ }
+    ensures { λ r. ⌜ Checks (numbers k K l n) (now (pattern .entry)) r ⌝ }
 {
     pattern::check(k, K, l, n, pattern)
 }
 
 pub fn first(k: i64, K: i64, l: u64, n: u64, pattern: &mut [u8]) -> Answer
-    ensures { λ r. ⌜ Firsts (given k K l n) (now (pattern .entry)) r (now (pattern .exit)) ⌝ }
+    ensures { λ r. ⌜ Firsts (numbers k K l n) (now (pattern .entry)) r (now (pattern .exit)) ⌝ }
 {
     pattern::first(k, K, l, n, pattern)
 }
 
 pub fn next(k: i64, K: i64, l: u64, n: u64, pattern: &mut [u8]) -> Answer
-    ensures { λ r. ⌜ Nexts (given k K l n) (now (pattern .entry)) r (now (pattern .exit)) ⌝ }
+    ensures { λ r. ⌜ Nexts (numbers k K l n) (now (pattern .entry)) r (now (pattern .exit)) ⌝ }
 {
     pattern::next(k, K, l, n, pattern)
 }

@@ -5,7 +5,7 @@ use mathlib.Core.Bool.{Bool}
 use Prim.Native.Nat.{ℕ}
 use lib.IntN.{ℤ}
 use Rattle.envelope.specs.Stream.{Within, Keeps}
-use Rattle.envelope.specs.Envelope.{Limits, resultOf}
+use Rattle.envelope.specs.Envelope.{numbers, Limits, resultOf}
 
 module _ (k K : ℤ) (l n : ℕ) where
   pub result-l : resultOf k K l n .l ≡ l
@@ -24,6 +24,6 @@ module _ (k K : ℤ) (l n : ℕ) where
   unfolding resultOf
   keeps-result b w = w
 
-  pub result-limits : Limits (record { k = k; K = K; l = l; n = n }) → Limits (resultOf k K l n)
+  pub result-limits : Limits (numbers k K l n) → Limits (resultOf k K l n)
   unfolding resultOf
   result-limits h = h

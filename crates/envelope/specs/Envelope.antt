@@ -11,6 +11,10 @@ use Rattle.whole.specs.Euclid.{gcdOf}
 use Rattle.envelope.specs.declared.Envelope.{Envelope}
 use Rattle.envelope.specs.Limits.{lMost, lowerLeast, lowerMost, upperLeast, upperMost}
 
+-- k, K, l and n, as an envelope
+abbrev pub numbers : ℤ → ℤ → ℕ → ℕ → Envelope
+numbers k K l n = record { k = k; K = K; l = l; n = n }
+
 -- "It is normal when l and n have no common factor above 1."
 abbrev pub Normal : Envelope → Type 0
 Normal e = gcdOf (e .l) (e .n) ≡ 1
@@ -46,7 +50,7 @@ pub record Taken (e : Envelope) : Type 0 where
 
 -- what each rule below gives its four numbers to: the result of every node passes here
 unfoldable pub resultOf : ℤ → ℤ → ℕ → ℕ → Envelope
-resultOf k K l n = record { k = k; K = K; l = l; n = n }
+resultOf k K l n = numbers k K l n
 
 -- "Declared: with g the greatest common divisor of l and n, divide both by g, k becomes k/g rounded up, K becomes K/g rounded down."
 unfoldable pub normalOf : ℤ → ℤ → ℕ → ℕ → Envelope

@@ -7,7 +7,7 @@ use Rattle.envelope.specs.declared.Envelope.{Envelope}
 use Rattle.envelope.specs.declared.Node.{Node}
 use Rattle.envelope.specs.declared.Made.{Made}
 use Rattle.envelope.specs.declared.Made.the-variants.{Good, Empty, FullRate, Outgrown}
-use Rattle.envelope.specs.Envelope.{Limits, withinLimits, hasRoom, normalOf, notOf, onOf}
+use Rattle.envelope.specs.Envelope.{numbers, Limits, withinLimits, hasRoom, normalOf, notOf, onOf}
 
 -- document 01's number for each: 0 where there is an envelope
 abbrev pub numberOf : Made → ℕ
@@ -21,7 +21,7 @@ nodeOf e = record { envelope = e }
 
 -- the fields of a declared node, each within its limit
 pub record Fields (k K : ℤ) (l n : ℕ) : Type 0 where
-  pub limits : Limits (record { k = k; K = K; l = l; n = n })
+  pub limits : Limits (numbers k K l n)
   pub n-least : 1 ≤ n
   pub n-most : n ≤ l
 

@@ -5,7 +5,7 @@ use Prim.Native.Nat.{ℕ}
 use lib.Dec.{leb}
 use lib.ListN.{length}
 use Rattle.reply.specs.Numbers.{shortResult}
-use Rattle.sheet.specs.declared.Reply.{Reply}
+use Rattle.sizing.specs.declared.Reply.{Reply}
 use Rattle.register.specs.declared.Closing.{Closing}
 use Rattle.register.specs.declared.QuoteReply.{QuoteReply}
 use Rattle.register.specs.Closing.{closingNumber, closingPlace}

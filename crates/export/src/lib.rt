@@ -1,8 +1,9 @@
 // The library's entry points under C's calling convention, prefix `txori_`. A slice is a pointer and then a length.
 ghost use mathlib.Core.Path.{_≡_};
-ghost use Rattle.sheet.specs.WorkOut.{WorksOut};
+ghost use Rattle.sizing.specs.WorkOut.{WorksOut};
 ghost use Rattle.register.specs.Closing.{Closes};
-ghost use Rattle.pattern.specs.Answer.{given, Checks, Firsts, Nexts};
+ghost use Rattle.envelope.specs.Envelope.{numbers};
+ghost use Rattle.pattern.specs.Answer.{Checks, Firsts, Nexts};
 ghost use Rattle.report.specs.Listing.{ListsInto};
 ghost use Rattle.export.specs.Flat.{workOutReply, closeReply, answerReply, listWritten};
 ghost use Rattle.export.specs.Promise.{As, Copies};
@@ -47,7 +48,7 @@ pub extern "C" fn txori_work_out(
 ) -> TxoriWorkOut
     ensures { λ r. ⌜ As workOutReply (λ a. WorksOut (now (sheet .entry)) (now (clocks .entry)) (now (links .entry)) a (now (clocks .exit)) (now (links .exit))) r ⌝ }
 {
-    let r = sheet::work_out(sheet, clocks, links);
+    let r = sizing::work_out(sheet, clocks, links);
     TxoriWorkOut {
         number: r.number as u64,
         place: r.place as u64,
@@ -147,21 +148,21 @@ fn flat(answer: Answer) -> TxoriReply
 
 #[no_mangle]
 pub extern "C" fn txori_check(k: i64, K: i64, l: u64, n: u64, pattern: &[u8]) -> TxoriReply
-    ensures { λ r. ⌜ As answerReply (λ a. Checks (given k K l n) (now (pattern .entry)) a) r ⌝ }
+    ensures { λ r. ⌜ As answerReply (λ a. Checks (numbers k K l n) (now (pattern .entry)) a) r ⌝ }
 {
     flat(pattern::check(k, K, l, n, pattern))
 }
 
 #[no_mangle]
 pub extern "C" fn txori_first(k: i64, K: i64, l: u64, n: u64, pattern: &mut [u8]) -> TxoriReply
-    ensures { λ r. ⌜ As answerReply (λ a. Firsts (given k K l n) (now (pattern .entry)) a (now (pattern .exit))) r ⌝ }
+    ensures { λ r. ⌜ As answerReply (λ a. Firsts (numbers k K l n) (now (pattern .entry)) a (now (pattern .exit))) r ⌝ }
 {
     flat(pattern::first(k, K, l, n, pattern))
 }
 
 #[no_mangle]
 pub extern "C" fn txori_next(k: i64, K: i64, l: u64, n: u64, pattern: &mut [u8]) -> TxoriReply
-    ensures { λ r. ⌜ As answerReply (λ a. Nexts (given k K l n) (now (pattern .entry)) a (now (pattern .exit))) r ⌝ }
+    ensures { λ r. ⌜ As answerReply (λ a. Nexts (numbers k K l n) (now (pattern .entry)) a (now (pattern .exit))) r ⌝ }
 {
     flat(pattern::next(k, K, l, n, pattern))
 }

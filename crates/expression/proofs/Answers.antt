@@ -29,7 +29,7 @@ use Rattle.expression.specs.Expression.{Tag, tagNumber, tagMost, Expr}
 use Rattle.expression.specs.Evaluate.{Worth, worthOf}
 use Rattle.expression.specs.Reader.{exprAt, nodeIn}
 use Rattle.expression.specs.Format.{Valued, tag, found, named, both, parts, expression}
-use Rattle.expression.specs.Inner.Nodes.{Holds, nodesIn, nodeAt}
+use Rattle.expression.specs.Inner.Nodes.{HoldsNodes, nodesIn, nodeAt}
 use Rattle.expression.specs.Inner.Parts.{placed, listedAt, declaredAt}
 use Rattle.expression.proofs.Lookup.{lookup-below, lookup-none}
 use Rattle.expression.proofs.Tables.{nodes-many, node-at}
@@ -94,7 +94,7 @@ module _ (s : List ℕ) where
 -- ---- an expression
 module _ (s : List ℕ) (ws cs : List ℤ) where
   -- what it answers is taken
-  pub answer-taken : Holds ws → Holds cs → (d a : ℕ) (x : Node) (c : ℕ) → answer s ws cs d a ≡ got x c → Taken (x .envelope)
+  pub answer-taken : HoldsNodes ws → HoldsNodes cs → (d a : ℕ) (x : Node) (c : ℕ) → answer s ws cs d a ≡ got x c → Taken (x .envelope)
   answer-taken hw hc d a x c h =
       let r = mapped-got nodeIn (exprAt d s (nodesIn ws) (nodesIn cs) a) x c h in
       let t = accepted s (nodesIn ws) (nodesIn cs) d a (r .0) c (r .1) in

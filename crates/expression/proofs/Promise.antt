@@ -12,7 +12,7 @@ use Rattle.expression.specs.Expression.{Word, Clock}
 use Rattle.expression.specs.Evaluate.{Worked}
 use Rattle.expression.specs.Inner.Nodes.{AllTaken}
 use Rattle.expression.specs.Spelled.{indexes}
-use Rattle.expression.specs.Promise.{AllLegal, Meaning, Reading, OneAnswer}
+use Rattle.expression.specs.Promise.{AllLegal, Meaning, Reading, OneValue}
 use Rattle.expression.proofs.Evaluated.{evaluate-taken}
 use Rattle.expression.proofs.Sound.{clocks-taken, part-taken, sound, clock-sound}
 use Rattle.expression.proofs.Exists.{clock-some, stands-some}
@@ -41,7 +41,7 @@ reading s ws cs bytes tw tc hw hc =
       refusal = λ d a x number c. fault-read s ws cs hw hc x d a number c;
     }
 
-pub one-answer : OneAnswer
+pub one-answer : OneValue
 one-answer (Value.Got x c) (Value.Got y d) e =
     let z : c .at ≡ d .at = cc in
     let same : c ≡ d = ap {B = Cursor} (λ a. record { at = a }) z in

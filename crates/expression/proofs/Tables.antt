@@ -12,7 +12,7 @@ use mir.Val.{SFits, toZ, ofZ}
 use mir.Facts.{toZ-ofZ}
 use Rattle.whole.proofs.Bridge.{sfits-reads, sfits-shows}
 use Rattle.envelope.specs.declared.Node.{Node}
-use Rattle.expression.specs.Inner.Nodes.{perNode, HasNode, flat, flats, nodeFrom, nodesIn, nodeAt, AllTaken, Holds}
+use Rattle.expression.specs.Inner.Nodes.{perNode, HasNode, flat, flats, nodeFrom, nodesIn, nodeAt, AllTaken, HoldsNodes}
 
 -- ---- the nodes of a slice
 
@@ -76,7 +76,7 @@ flats-more (y ∷ xs) x =
     ap {B = List ℤ} (λ r. y .envelope .k ∷ (y .envelope .K ∷ (pos (y .envelope .l) ∷ (pos (y .envelope .n) ∷ r)))) (flats-more xs x)
 
 -- taken nodes make a table
-pub flats-holds : (xs : List Node) → AllTaken xs → Holds (flats xs)
+pub flats-holds : (xs : List Node) → AllTaken xs → HoldsNodes (flats xs)
 flats-holds xs t = record { flat-is = ap flats (flats-back xs); taken = subst AllTaken (sym (flats-back xs)) t }
 
 -- ---- l and n stand in a table as they are
@@ -93,7 +93,7 @@ unsigned-at (x ∷ xs) (suc i) h =
     let q : 4 * suc i + 3 ≡ suc (suc (suc (suc (4 * i + 3)))) = omega arith in
     (subst (λ (j : ℕ). Unsigned (flats (x ∷ xs)) j) (sym p) (r .0), subst (λ (j : ℕ). Unsigned (flats (x ∷ xs)) j) (sym q) (r .1))
 
-pub holds-unsigned : (t : List ℤ) (i : ℕ) → Holds t → HasNode t i → Unsigned t (perNode * i + 2) × Unsigned t (perNode * i + 3)
+pub holds-unsigned : (t : List ℤ) (i : ℕ) → HoldsNodes t → HasNode t i → Unsigned t (perNode * i + 2) × Unsigned t (perNode * i + 3)
 holds-unsigned t i h l =
     subst (λ (x : List ℤ). Unsigned x (perNode * i + 2) × Unsigned x (perNode * i + 3)) (h .flat-is)
     (unsigned-at (nodesIn t) i (omega (arith, nodes-many t)))

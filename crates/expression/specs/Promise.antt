@@ -53,5 +53,5 @@ pub record Reading (s : List ℕ) (ws cs : List Node) : Type 0 where
       → exprAt d s ws cs a ≡ refused number (a + blame ws cs x)
 
 -- a contract that gives the reading decides the answer: no second one satisfies it
-abbrev pub OneAnswer : Type 0
-OneAnswer = (r q : Value) → valueOf r ≡ valueOf q → r ≡ q
+abbrev pub OneValue : Type 0
+OneValue = (r q : Value) → valueOf r ≡ valueOf q → r ≡ q

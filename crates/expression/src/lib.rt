@@ -1,13 +1,12 @@
 // Expressions: the evaluator that calls itself, over tables of nodes that are lent and never copied.
 ghost use mathlib.Core.Path.{_≡_};
 ghost use Prim.Native.Nat.{ℕ, _+_, _*_, _<_};
-ghost use lib.ListN.{length};
 ghost use lib.Seq.{sets};
 ghost use Rattle.envelope.specs.Envelope.{Taken};
 ghost use Rattle.expression.specs.Evaluate.{worthOf};
 ghost use Rattle.field.specs.Read.{mapped};
 ghost use Rattle.expression.specs.Reader.{exprAt, nodeIn, valueOf};
-ghost use Rattle.expression.specs.Inner.Nodes.{perNode, HasNode, flat, Holds, nodesIn, nodeAt};
+ghost use Rattle.expression.specs.Inner.Nodes.{perNode, HasNode, flat, HoldsNodes, nodesIn, nodeAt};
 ghost use Rattle.expression.specs.Inner.Parts.{placed, listedAt, declaredAt};
 ghost use Rattle.expression.specs.Inner.Skipping.{ownBytes, partsOf, HasExpr};
 use envelope::Envelope;
@@ -54,7 +53,7 @@ fn place(made: Made, c: Cursor, tag: usize) -> Value
 
 // The node at index i of a table.
 pub fn entry(table: &[i32], i: usize) -> Node
-    requires { ⌜ (HasNode (now table) i) × Holds (now table) ⌝ }
+    requires { ⌜ (HasNode (now table) i) × HoldsNodes (now table) ⌝ }
     ensures { λ r. ⌜ r ≡ nodeAt (now (table .entry)) i ⌝ }
 {
     let at = PER_NODE * i;
@@ -87,7 +86,7 @@ pub fn store(x: Node, table: &mut [i32], i: usize)
 
 // A word or an earlier clock, by its index in a table.
 fn listed(c: Cursor, s: &[u8], table: &[i32]) -> Value
-    requires { ⌜ Holds (now table) ⌝ }
+    requires { ⌜ HoldsNodes (now table) ⌝ }
     ensures { λ r. ⌜ valueOf r ≡ listedAt (now (s .entry)) (now (table .entry)) (c .at) ⌝ }
 {
     match c.within(s, 2, 0, table.len() / PER_NODE, reply::ABSENT) {
@@ -127,7 +126,7 @@ fn declared(c: Cursor, s: &[u8], tag: usize) -> Value
 
 // An expression, of which `depth` levels are left.
 pub fn evaluate(start: Cursor, s: &[u8], words: &[i32], clocks: &[i32], depth: usize) -> Value
-    requires { ⌜ Holds (now words) × Holds (now clocks) ⌝ }
+    requires { ⌜ HoldsNodes (now words) × HoldsNodes (now clocks) ⌝ }
     ensures { λ r. ⌜ valueOf r ≡ mapped nodeIn (exprAt depth (now (s .entry)) (nodesIn (now (words .entry))) (nodesIn (now (clocks .entry))) (start .at)) ⌝ }
 {
     let tag_at = start.at;

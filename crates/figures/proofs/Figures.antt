@@ -14,9 +14,9 @@ use Rattle.field.specs.Run.{run}
 use Rattle.expression.specs.Format.{parts, expression}
 use Rattle.expression.specs.Reader.{exprAt}
 use Rattle.sheet.specs.Reader.{rowsAt, sectionAt, bitsAt, wordAt, clockAt, linkAt, linksOn, clocksOn, readFrom, readSheet}
-use Rattle.sheet.specs.Rooms.{total, openRoom, wholeRoom}
-use Rattle.sheet.specs.WorkOut.{workedOf, flatten}
-use Rattle.sheet.specs.Figures.{nots}
+use Rattle.sizing.specs.Rooms.{total, openRoom, wholeRoom}
+use Rattle.sizing.specs.WorkOut.{workedOf, flatten}
+use Rattle.sizing.specs.Figures.{nots}
 use Rattle.pattern.specs.Step.{low, high, oneMay, zeroMay}
 use Rattle.pattern.specs.Answer.{checkAnswer, firstAnswer, firstBytes, nextAnswer, nextBytes}
 use Rattle.figures.specs.Figures.{walkFrom, walkOver, figures, said}

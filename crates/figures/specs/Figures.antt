@@ -4,11 +4,12 @@ use Prim.Native.Nat.{ℕ, zero, suc}
 use lib.IntN.{pos}
 use lib.ListN.{replicate}
 use Rattle.link.specs.Figures as links
-use Rattle.sheet.specs.Figures as sheets
+use Rattle.sizing.specs.Figures as sheets
 use Rattle.envelope.specs.declared.Envelope.{Envelope}
+use Rattle.envelope.specs.Envelope.{numbers}
 use Rattle.pattern.specs.declared.Answer.{Answer}
 use Rattle.pattern.specs.declared.Answer.the-variants.{Inside, Done, Last, Refused}
-use Rattle.pattern.specs.Answer.{given, firstAnswer, firstBytes, nextAnswer, nextBytes}
+use Rattle.pattern.specs.Answer.{firstAnswer, firstBytes, nextAnswer, nextBytes}
 
 -- an envelope, a node or a verdict; a sheet worked out; the patterns of a walk
 pub data Figure : Type 0 where
@@ -34,7 +35,7 @@ walkOver e most p = afterDone (firstAnswer e p) (walkFrom e most (firstBytes e p
 
 -- at most `most` patterns of 2 3 2 1 at a length, whatever the slice held
 abbrev pub walk2321 : ℕ → ℕ → Figure
-walk2321 most length = patterns (walkOver (given (pos 2) (pos 3) 2 1) most (replicate length 7))
+walk2321 most length = patterns (walkOver (numbers (pos 2) (pos 3) 2 1) most (replicate length 7))
 
 -- what the definitions give
 abbrev pub figures : List Figure

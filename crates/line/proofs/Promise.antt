@@ -8,7 +8,7 @@ use lib.IntN.{ℤ, pos, negsuc}
 use lib.ListN.{length, getD, take, drop, length-append, List·getD-append}
 use lib.Seq.{append-snoc, sets, sets-eq, take-at, drop-at, take-append-seam, length-take-le}
 use Rattle.line.specs.Text.{Out, outOf, top, put, Put, figure, minus, digits, decimal}
-use Rattle.line.specs.Promise.{allFigures, readOn, valueOf, NumbersPromise, Stands, TextPromise}
+use Rattle.line.specs.Promise.{allFigures, readOn, decimalValue, NumbersPromise, WrittenAt, TextPromise}
 use Rattle.line.proofs.Figures.{figures, figure-last}
 use Rattle.line.proofs.Puts.{put-then, put-length, put-at, put-fits}
 use Rattle.line.proofs.Digits.{by-tens, digits-few, digits-more, length-few, length-some}
@@ -37,10 +37,10 @@ unfolding readOn
 readOn-then v [] u = refl
 readOn-then v (d ∷ t) u = readOn-then (v * 10 + (d - figure 0)) t u
 
-value : (n : ℕ) → valueOf (digits n) ≡ n
+value : (n : ℕ) → decimalValue (digits n) ≡ n
 unfolding readOn
 value =
-    by-tens (λ n. valueOf (digits n) ≡ n)
+    by-tens (λ n. decimalValue (digits n) ≡ n)
     (λ n h. rw (digits-few n h) (omega arith))
     (λ n h e. rw (digits-more n h, readOn-then 0 (digits (n / 10)) (figure (n % 10) ∷ []), e) (omega arith))
 
@@ -56,7 +56,7 @@ on-from v (d ∷ t) h e =
     let here : digits w ≡ digits v ++ (d ∷ []) = digits-more w (omega arith) ∙ rw (tenth, last) in
     on-from w t (omega arith) (f .others) ∙ ap (λ (l : List ℕ). l ++ t) here ∙ append-snoc (digits v) d t
 
-spelled : (t : List ℕ) → 0 < length t → allFigures t ≡ true → (1 < length t → figure 0 < getD t 0 0) → t ≡ digits (valueOf t)
+spelled : (t : List ℕ) → 0 < length t → allFigures t ≡ true → (1 < length t → figure 0 < getD t 0 0) → t ≡ digits (decimalValue t)
 unfolding readOn
 spelled [] h f l = absurd (omega arith)
 spelled (d ∷ []) h e l =
@@ -71,7 +71,7 @@ spelled (d ∷ c ∷ t) h e l =
 
 -- ---- so two numbers with the same text are equal
 same-digits : (m n : ℕ) → digits m ≡ digits n → m ≡ n
-same-digits m n e = sym (value m) ∙ ap valueOf e ∙ value n
+same-digits m n e = sym (value m) ∙ ap decimalValue e ∙ value n
 
 -- no figure is a minus sign
 not-minus : (n m : ℕ) → digits n ≡ minus ∷ digits m → ⊥
@@ -107,7 +107,7 @@ module _ (xs : List ℕ) (a : ℕ) (t : List ℕ) (h : a + length t ≤ length x
   parts : sets xs a t ≡ take a xs ++ (t ++ drop (a + length t) xs)
   parts = sets-eq t xs a h ∙ append-assoc (take a xs) t (drop (a + length t) xs)
 
-  stands : (ys : List ℕ) (r : ℕ) → Put xs a t ys r → Stands xs a t ys r
+  stands : (ys : List ℕ) (r : ℕ) → Put xs a t ys r → WrittenAt xs a t ys r
   stands ys r p =
       let rest = drop (a + length t) xs in
       let bytes : ys ≡ sets xs a t = ap (λ (o : Out). o .bytes) p ∙ put-fits xs a t h k in

@@ -22,8 +22,8 @@ unfoldable pub readOn : ℕ → List ℕ → ℕ
 readOn v [] = v
 readOn v (d ∷ t) = readOn (v * 10 + (d - figure 0)) t
 
-abbrev pub valueOf : List ℕ → ℕ
-valueOf t = readOn 0 t
+abbrev pub decimalValue : List ℕ → ℕ
+decimalValue t = readOn 0 t
 
 -- a decimal number as it is to be written: figures, one at least, and "0" first only where it stands alone
 pub record Numeral (t : List ℕ) : Type 0 where
@@ -34,15 +34,15 @@ pub record Numeral (t : List ℕ) : Type 0 where
 pub record NumbersPromise : Type 0 where
   -- the digits of a number are a numeral, and read back they are the number
   pub numeral : (n : ℕ) → Numeral (digits n)
-  pub value : (n : ℕ) → valueOf (digits n) ≡ n
+  pub value : (n : ℕ) → decimalValue (digits n) ≡ n
   -- no other numeral is read as that number
-  pub spelled : (t : List ℕ) → Numeral t → t ≡ digits (valueOf t)
+  pub spelled : (t : List ℕ) → Numeral t → t ≡ digits (decimalValue t)
   -- so two numbers with the same text are equal, whatever their signs
   pub same-digits : (m n : ℕ) → digits m ≡ digits n → m ≡ n
   pub same-decimal : (x y : ℤ) → decimal x ≡ decimal y → x ≡ y
 
 -- a text stands at its place, and all before and after it is as it was
-pub record Stands (xs : List ℕ) (a : ℕ) (t : List ℕ) (ys : List ℕ) (r : ℕ) : Type 0 where
+pub record WrittenAt (xs : List ℕ) (a : ℕ) (t : List ℕ) (ys : List ℕ) (r : ℕ) : Type 0 where
   pub before : take a ys ≡ take a xs
   pub text : take (length t) (drop a ys) ≡ t
   pub after : drop r ys ≡ drop r xs
@@ -50,7 +50,7 @@ pub record Stands (xs : List ℕ) (a : ℕ) (t : List ℕ) (ys : List ℕ) (r : 
 
 pub record TextPromise : Type 0 where
   -- a text that is put where it fits stands there
-  pub stands : (xs : List ℕ) (a : ℕ) (t ys : List ℕ) (r : ℕ) → a + length t ≤ length xs → length xs ≤ top → Put xs a t ys r → Stands xs a t ys r
+  pub stands : (xs : List ℕ) (a : ℕ) (t ys : List ℕ) (r : ℕ) → a + length t ≤ length xs → length xs ≤ top → Put xs a t ys r → WrittenAt xs a t ys r
   -- a text that is put into any buffer, an empty one too, is measured
   pub measured : (xs t ys : List ℕ) (r : ℕ) → length t ≤ top → Put xs 0 t ys r → r ≡ length t
   -- one text after another is the two as one

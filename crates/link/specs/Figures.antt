@@ -5,7 +5,7 @@ use lib.IntN.{ℤ, pos, negℤ}
 use Rattle.envelope.specs.declared.Envelope.{Envelope}
 use Rattle.envelope.specs.declared.Made.{Made}
 use Rattle.envelope.specs.declared.Made.the-variants.{Good, Empty, FullRate, Outgrown}
-use Rattle.envelope.specs.Envelope.{notOf, onOf}
+use Rattle.envelope.specs.Envelope.{numbers, notOf, onOf}
 use Rattle.envelope.specs.Word.{wordOf}
 use Rattle.envelope.specs.Made.{numberOf, declaredOf, negatedOf}
 use Rattle.link.specs.declared.Verdict.{Verdict}
@@ -17,11 +17,8 @@ pub data Figure : Type 0 where
   refused : ℕ → Figure
   verdict : Verdict → Figure
 
-abbrev pub numbers : ℤ → ℤ → ℕ → ℕ → Envelope
-numbers k K l n = record { k = k; K = K; l = l; n = n }
-
-abbrev pub minus : ℕ → ℤ
-minus n = negℤ (pos n)
+abbrev pub negative : ℕ → ℤ
+negative n = negℤ (pos n)
 
 -- what a rule makes: "taken as" an envelope, or "refused" with a number
 abbrev pub made : Made → Figure
@@ -55,14 +52,14 @@ given =
 
 abbrev pub said : List Figure
 said =
-    envelope (numbers (minus 2) (pos 0) 5 3)
+    envelope (numbers (negative 2) (pos 0) 5 3)
     ∷ envelope (numbers (pos 5) (pos 9) 5 3)
     ∷ envelope (numbers (pos 2) (pos 2) 5 1)
     ∷ envelope (numbers (pos 0) (pos 0) 4 1)
     ∷ envelope (numbers (pos 1) (pos 1) 5 1)
     ∷ envelope (numbers (pos 0) (pos 0) 5 1)
-    ∷ envelope (numbers (minus 3) (pos 0) 5 2)
-    ∷ envelope (numbers (minus 6) (pos 0) 5 2)
+    ∷ envelope (numbers (negative 3) (pos 0) 5 2)
+    ∷ envelope (numbers (negative 6) (pos 0) 5 2)
     ∷ envelope (numbers (pos 2) (pos 9) 5 3)
     ∷ refused 7
     ∷ envelope (numbers (pos 0) (pos 0) 1 1)

@@ -5,7 +5,7 @@ use Prim.Native.Nat.{ℕ, zero, suc, _+_, _-_, _*_, _^_}
 use lib.Dec.{ltb, eqb}
 use lib.IntN.{pos, negsuc}
 use Rattle.line.specs.Text.{figure, minus}
-use Rattle.line.specs.Promise.{isFigure, allFigures, valueOf}
+use Rattle.line.specs.Promise.{isFigure, allFigures, decimalValue}
 use Rattle.numeral.specs.declared.Number.{Number}
 use Rattle.numeral.specs.declared.SignedNumber.{SignedNumber}
 
@@ -15,7 +15,7 @@ fitted v = cond (ltb v (2 ^ 64)) (Number.Is v) Number.TooLarge
 
 -- the number that a text spells, where it is all figures
 abbrev pub numeralOf : List ℕ → Number
-numeralOf t = cond (allFigures t) (fitted (valueOf t)) Number.NotANumber
+numeralOf t = cond (allFigures t) (fitted (decimalValue t)) Number.NotANumber
 
 -- an empty text spells none
 unfoldable pub naturalOf : List ℕ → Number

@@ -16,34 +16,34 @@ use mir.Facts.{toZ-ofZ}
 use borrow.Author.Tests.{lt-ltb, le-ltb}
 use Rattle.reply.specs.Numbers.{noEnvelope, longPattern, notABit}
 use Rattle.envelope.specs.declared.Envelope.{Envelope}
-use Rattle.envelope.specs.Envelope.{Taken}
+use Rattle.envelope.specs.Envelope.{numbers, Taken}
 use Rattle.envelope.specs.Inner.Tests.{isTaken}
-use Rattle.pattern.specs.declared.Mark.{Mark}
+use Rattle.pattern.specs.declared.Lift.{Lift}
 use Rattle.pattern.specs.declared.Answer.{Answer}
 use Rattle.pattern.specs.declared.Answer.the-variants.{Inside, Done, Last, Refused}
 use Rattle.pattern.specs.declared.Judged.{Judged}
 use Rattle.pattern.specs.declared.Judged.the-variants.{Sound, Unsound}
 use Rattle.pattern.specs.Pattern.{longest, plain}
-use Rattle.pattern.specs.Answer.{given, checkAnswer, firstAnswer, firstBytes, nextOf, nextAnswer, nextBytes, Checks, Firsts, Nexts}
-use Rattle.pattern.specs.Inner.Scan.{Near, onward, filled, reached, markOf, scanned, judged}
+use Rattle.pattern.specs.Answer.{checkAnswer, firstAnswer, firstBytes, nextOf, nextAnswer, nextBytes, Checks, Firsts, Nexts}
+use Rattle.pattern.specs.Inner.Scan.{Near, offsetAfter, filled, reached, liftOf, scanned, judged}
 use Rattle.pattern.proofs.Offsets.{offset-start, filled-is, near-on, near-more, near-held, near-reached}
-use Rattle.pattern.proofs.Replies.{fromMark, next-mark, Sane, sane, answerOf, judged-check, Passes, sound-is}
+use Rattle.pattern.proofs.Replies.{fromLift, next-lift, Sane, sane, answerOf, judged-check, Passes, sound-is}
 
 -- ---- four numbers, as the machine holds them: what is said of those is said of the numbers
 abbrev pub heldOf : ℤ → ℤ → ℕ → ℕ → Envelope
-heldOf k K l n = given (toZ w64 (ofZ w64 k)) (toZ w64 (ofZ w64 K)) l n
+heldOf k K l n = numbers (toZ w64 (ofZ w64 k)) (toZ w64 (ofZ w64 K)) l n
 
 module _ (k K : ℤ) (l n : ℕ) (f : SFits w64 k) (g : SFits w64 K) where
-  held-given : heldOf k K l n ≡ given k K l n
-  held-given = λ i. given (toZ-ofZ f i) (toZ-ofZ g i) l n
+  held-given : heldOf k K l n ≡ numbers k K l n
+  held-given = λ i. numbers (toZ-ofZ f i) (toZ-ofZ g i) l n
 
-  pub checks-given : {p : List ℕ} {r : Answer} → Checks (heldOf k K l n) p r → Checks (given k K l n) p r
+  pub checks-given : {p : List ℕ} {r : Answer} → Checks (heldOf k K l n) p r → Checks (numbers k K l n) p r
   checks-given {p} {r} = subst (λ (e : Envelope). Checks e p r) held-given
 
-  pub firsts-given : {p q : List ℕ} {r : Answer} → Firsts (heldOf k K l n) p r q → Firsts (given k K l n) p r q
+  pub firsts-given : {p q : List ℕ} {r : Answer} → Firsts (heldOf k K l n) p r q → Firsts (numbers k K l n) p r q
   firsts-given {p} {q} {r} = subst (λ (e : Envelope). Firsts e p r q) held-given
 
-  pub nexts-given : {p q : List ℕ} {r : Answer} → Nexts (heldOf k K l n) p r q → Nexts (given k K l n) p r q
+  pub nexts-given : {p q : List ℕ} {r : Answer} → Nexts (heldOf k K l n) p r q → Nexts (numbers k K l n) p r q
   nexts-given {p} {q} {r} = subst (λ (e : Envelope). Nexts e p r q) held-given
 
 module _ (e : Envelope) (p : List ℕ) where
@@ -119,46 +119,46 @@ module _ (e : Envelope) (p : List ℕ) where
         ap (λ (d : ℤ). toZ w64 (ofZ w64 d)) (passing .is-end)
         ∙ near-held (length p) (reached e (pos 0) p) short (near-reached e taken p)
 
-    module _ (m : Mark) (is-mark : m ≡ markOf e p) where
-      next-fine : nextOf e p ≡ fromMark e p (m .place) (m .offset)
-      next-fine = sym (next-mark e p) ∙ ap (λ (r : Mark). fromMark e p (r .place) (r .offset)) (sym is-mark)
+    module _ (m : Lift) (is-lift : m ≡ liftOf e p) where
+      next-fine : nextOf e p ≡ fromLift e p (m .place) (m .offset)
+      next-fine = sym (next-lift e p) ∙ ap (λ (r : Lift). fromLift e p (r .place) (r .offset)) (sym is-lift)
 
       pub next-last : m .place ≡ 0 → Nexts e p Last p
       unfolding nextAnswer nextBytes
       next-last h =
-          let n : nextOf e p ≡ none = next-fine ∙ ap (λ (t : ℕ). fromMark e p t (m .offset)) h in
+          let n : nextOf e p ≡ none = next-fine ∙ ap (λ (t : ℕ). fromLift e p t (m .offset)) h in
           record { answer-is = rw (is-inside, n); bytes-are = rw (is-inside, n) }
 
-      -- ---- where there is a mark, its 0 becomes a 1
-      module _ (some-mark : m .place ≡ 0 → ⊥) where
-        -- one place before the mark's number
-        mark-is : m .place ≡ suc (m .place - 1)
-        mark-is = omega (arith, some-mark)
+      -- ---- where there is a lift, its 0 becomes a 1
+      module _ (some-lift : m .place ≡ 0 → ⊥) where
+        -- one place before the lift's number
+        lift-is : m .place ≡ suc (m .place - 1)
+        lift-is = omega (arith, some-lift)
 
-        sane-mark : Sane e (length p) m
-        sane-mark = subst (Sane e (length p)) (sym is-mark) (sane e taken p)
+        sane-lift : Sane e (length p) m
+        sane-lift = subst (Sane e (length p)) (sym is-lift) (sane e taken p)
 
         pub within : m .place ≤ length p
-        within = sane-mark .within
+        within = sane-lift .within
 
-        near-mark : Near (m .place - 1) (m .offset)
-        near-mark = sane-mark .near (m .place - 1) mark-is
+        near-lift : Near (m .place - 1) (m .offset)
+        near-lift = sane-lift .near (m .place - 1) lift-is
 
-        mark-held : toZ w64 (ofZ w64 (m .offset)) ≡ m .offset
-        mark-held = near-held (m .place - 1) (m .offset) (omega (arith, within, short)) near-mark
+        lift-held : toZ w64 (ofZ w64 (m .offset)) ≡ m .offset
+        lift-held = near-held (m .place - 1) (m .offset) (omega (arith, within, short)) near-lift
 
-        pub near-held-mark : Near longest (toZ w64 (ofZ w64 (m .offset)))
-        near-held-mark = rw mark-held (near-more (m .place - 1) longest (m .offset) (omega (arith, within, short)) near-mark)
+        pub near-held-lift : Near longest (toZ w64 (ofZ w64 (m .offset)))
+        near-held-lift = rw lift-held (near-more (m .place - 1) longest (m .offset) (omega (arith, within, short)) near-lift)
 
-        near-raised : Near (m .place) (onward e (m .offset) 1)
-        near-raised = subst (λ (k : ℕ). Near k (onward e (m .offset) 1)) (sym mark-is) (near-on e taken (m .place - 1) (m .offset) 1 near-mark)
+        near-raised : Near (m .place) (offsetAfter e (m .offset) 1)
+        near-raised = subst (λ (k : ℕ). Near k (offsetAfter e (m .offset) 1)) (sym lift-is) (near-on e taken (m .place - 1) (m .offset) 1 near-lift)
 
         -- the offset after that 1, of which the machine has r
-        module _ (r : ℤ) (is-on : r ≡ onward e (toZ w64 (ofZ w64 (m .offset))) 1) where
-          raised-held : toZ w64 (ofZ w64 r) ≡ onward e (m .offset) 1
+        module _ (r : ℤ) (is-on : r ≡ offsetAfter e (toZ w64 (ofZ w64 (m .offset))) 1) where
+          raised-held : toZ w64 (ofZ w64 r) ≡ offsetAfter e (m .offset) 1
           raised-held =
-              ap (λ (d : ℤ). toZ w64 (ofZ w64 d)) (is-on ∙ ap (λ (d : ℤ). onward e d 1) mark-held)
-              ∙ near-held (m .place) (onward e (m .offset) 1) (omega (arith, within, short)) near-raised
+              ap (λ (d : ℤ). toZ w64 (ofZ w64 d)) (is-on ∙ ap (λ (d : ℤ). offsetAfter e d 1) lift-held)
+              ∙ near-held (m .place) (offsetAfter e (m .offset) 1) (omega (arith, within, short)) near-raised
 
           pub near-after : Near (m .place) (toZ w64 (ofZ w64 r))
           near-after = rw raised-held near-raised
@@ -167,10 +167,10 @@ module _ (e : Envelope) (p : List ℕ) where
           unfolding nextAnswer nextBytes
           next-done w h =
               let t : ℕ = m .place - 1 in
-              let d : ℤ = onward e (m .offset) 1 in
+              let d : ℤ = offsetAfter e (m .offset) 1 in
               let tail : List ℕ = filled e d (length p - suc t) in
-              let in-p : t < length p = omega (arith, mark-is, within) in
-              let n : nextOf e p ≡ some (take t p ++ (1 ∷ tail)) = next-fine ∙ ap (λ (k : ℕ). fromMark e p k (m .offset)) mark-is in
-              let h′ : w ≡ take (suc t) (set p t 1) ++ filled e d (length (set p t 1) - suc t) = h ∙ ap (λ (x : ℤ). take (m .place) (set p t 1) ++ filled e x (length (set p t 1) - m .place)) raised-held ∙ ap (λ (k : ℕ). take k (set p t 1) ++ filled e d (length (set p t 1) - k)) mark-is in
+              let in-p : t < length p = omega (arith, lift-is, within) in
+              let n : nextOf e p ≡ some (take t p ++ (1 ∷ tail)) = next-fine ∙ ap (λ (k : ℕ). fromLift e p k (m .offset)) lift-is in
+              let h′ : w ≡ take (suc t) (set p t 1) ++ filled e d (length (set p t 1) - suc t) = h ∙ ap (λ (x : ℤ). take (m .place) (set p t 1) ++ filled e x (length (set p t 1) - m .place)) raised-held ∙ ap (λ (k : ℕ). take k (set p t 1) ++ filled e d (length (set p t 1) - k)) lift-is in
               let moved : w ≡ take t p ++ (1 ∷ tail) = h′ ∙ rw (length-set p t 1, take-suc-set p t 1 in-p) (append-snoc (take t p) 1 tail) in
               record { answer-is = rw (is-inside, n); bytes-are = rw (is-inside, n) moved }

@@ -16,11 +16,11 @@ use lib.Dec.{ltb, leb}
 use borrow.Author.Tests.{le-leb, lt-leb, leb-true, ltb-true, ltb-false}
 use Rattle.reply.specs.Numbers.{outside}
 use Rattle.envelope.specs.declared.Envelope.{Envelope}
-use Rattle.pattern.specs.declared.Mark.{Mark}
+use Rattle.pattern.specs.declared.Lift.{Lift}
 use Rattle.pattern.specs.declared.Judged.the-variants.{Unsound}
 use Rattle.envelope.specs.Envelope.{Taken}
 use Rattle.pattern.specs.Pattern.{longest, plain}
-use Rattle.pattern.specs.Inner.Scan.{Near, oneAt, zeroAt, mayAt, onward, leastAt, filled, reached, scanned, leadingOf, marked, unmarked, lastMark, markOf, largestFrom}
+use Rattle.pattern.specs.Inner.Scan.{Near, oneAt, zeroAt, mayAt, offsetAfter, leastAt, filled, reached, scanned, leadingOf, lifted, noLift, lastLift, liftOf, largestFrom}
 use Rattle.pattern.proofs.Offsets.{near-on, near-held, on-injective}
 
 -- ---- the first byte that is no bit
@@ -72,12 +72,12 @@ largest-plain (b ∷ p) m h = go (ltb m b) refl (largest-plain p (cond (ltb m b)
         (k, rw (le-leb b 1 (omega (arith, ltb-false m b q))) (ap suc (ih .1)))
 
 -- ---- the scan and the fill carry the offset d along: after the bit b the machine has r
-module _ (e : Envelope) (t : Taken e) (i : ℕ) (d : ℤ) (b : ℕ) (r : ℤ) (v : Near i d) (h : i < longest) (is-on : r ≡ onward e d b) where
-  near-next : Near (i + 1) (onward e d b)
+module _ (e : Envelope) (t : Taken e) (i : ℕ) (d : ℤ) (b : ℕ) (r : ℤ) (v : Near i d) (h : i < longest) (is-on : r ≡ offsetAfter e d b) where
+  near-next : Near (i + 1) (offsetAfter e d b)
   near-next = rw add-one (near-on e t i d b v)
 
-  pub on-held : toZ w64 (ofZ w64 r) ≡ onward e d b
-  on-held = ap (λ (z : ℤ). toZ w64 (ofZ w64 z)) is-on ∙ near-held (i + 1) (onward e d b) (omega arith) near-next
+  pub on-held : toZ w64 (ofZ w64 r) ≡ offsetAfter e d b
+  on-held = ap (λ (z : ℤ). toZ w64 (ofZ w64 z)) is-on ∙ near-held (i + 1) (offsetAfter e d b) (omega arith) near-next
 
   pub near-turn : Near (i + 1) (toZ w64 (ofZ w64 r))
   near-turn = rw on-held near-next
@@ -87,32 +87,32 @@ module _ (e : Envelope) (p : List ℕ) (i : ℕ) (d : ℤ) (h : i < length p) wh
   scan-stop k = rw (drop-cons p i 0 h, k)
 
   -- the machine has the offset s
-  module _ (s : ℤ) (is-on : s ≡ onward e d (getD p i 0)) where
+  module _ (s : ℤ) (is-on : s ≡ offsetAfter e d (getD p i 0)) where
     pub scan-turn : mayAt e d (getD p i 0) ≡ true → scanned e i d (drop i p) ≡ scanned e (i + 1) s (drop (i + 1) p)
     scan-turn k = rw (is-on, add-one, drop-cons p i 0 h, k)
 
 -- ---- from the end: one bit less
-reached-snoc : (e : Envelope) (q : List ℕ) (d : ℤ) (b : ℕ) → reached e d (q ++ (b ∷ [])) ≡ onward e (reached e d q) b
+reached-snoc : (e : Envelope) (q : List ℕ) (d : ℤ) (b : ℕ) → reached e d (q ++ (b ∷ [])) ≡ offsetAfter e (reached e d q) b
 reached-snoc e [] d b = refl
-reached-snoc e (c ∷ q) d b = reached-snoc e q (onward e d c) b
+reached-snoc e (c ∷ q) d b = reached-snoc e q (offsetAfter e d c) b
 
-mark-snoc : (e : Envelope) (q : List ℕ) (i : ℕ) (d : ℤ) (m : Mark) (b : ℕ) → lastMark e i d m (q ++ (b ∷ [])) ≡ marked e (i + length q) (reached e d q) (lastMark e i d m q) b
-mark-snoc e [] i d m b = rw add-zero
-mark-snoc e (c ∷ q) i d m b = rw (add-suc, ← suc-add) (mark-snoc e q (suc i) (onward e d c) (marked e i d m c) b)
+lift-snoc : (e : Envelope) (q : List ℕ) (i : ℕ) (d : ℤ) (m : Lift) (b : ℕ) → lastLift e i d m (q ++ (b ∷ [])) ≡ lifted e (i + length q) (reached e d q) (lastLift e i d m q) b
+lift-snoc e [] i d m b = rw add-zero
+lift-snoc e (c ∷ q) i d m b = rw (add-suc, ← suc-add) (lift-snoc e q (suc i) (offsetAfter e d c) (lifted e i d m c) b)
 
 module _ (e : Envelope) (p : List ℕ) (i : ℕ) (h : i < length p) where
-  reached-before : reached e (pos 0) (take (suc i) p) ≡ onward e (reached e (pos 0) (take i p)) (getD p i 0)
+  reached-before : reached e (pos 0) (take (suc i) p) ≡ offsetAfter e (reached e (pos 0) (take i p)) (getD p i 0)
   reached-before = rw (take-suc p i 0 h) (reached-snoc e (take i p) (pos 0) (getD p i 0))
 
-  mark-before : markOf e (take (suc i) p) ≡ marked e i (reached e (pos 0) (take i p)) (markOf e (take i p)) (getD p i 0)
-  mark-before =
+  lift-before : liftOf e (take (suc i) p) ≡ lifted e i (reached e (pos 0) (take i p)) (liftOf e (take i p)) (getD p i 0)
+  lift-before =
       let l : 0 + length (take i p) ≡ i = zero-add (length (take i p)) ∙ length-take-le i p (omega arith) in
       rw (take-suc p i 0 h)
-      (mark-snoc e (take i p) 0 (pos 0) unmarked (getD p i 0)
-      ∙ ap (λ (k : ℕ). marked e k (reached e (pos 0) (take i p)) (markOf e (take i p)) (getD p i 0)) l)
+      (lift-snoc e (take i p) 0 (pos 0) noLift (getD p i 0)
+      ∙ ap (λ (k : ℕ). lifted e k (reached e (pos 0) (take i p)) (liftOf e (take i p)) (getD p i 0)) l)
 
 -- one place back from i, where the machine has the offsets d and then r
-module _ (e : Envelope) (p : List ℕ) (i : ℕ) (there : 0 < i) (h : i ≤ length p) (d r : ℤ) (at-i : d ≡ reached e (pos 0) (take i p)) (back : onward e r (getD p (i - 1) 0) ≡ d) where
+module _ (e : Envelope) (p : List ℕ) (i : ℕ) (there : 0 < i) (h : i ≤ length p) (d r : ℤ) (at-i : d ≡ reached e (pos 0) (take i p)) (back : offsetAfter e r (getD p (i - 1) 0) ≡ d) where
   i-is : i ≡ suc (i - 1)
   i-is = omega arith
 
@@ -121,23 +121,23 @@ module _ (e : Envelope) (p : List ℕ) (i : ℕ) (there : 0 < i) (h : i ≤ leng
       on-injective e r (reached e (pos 0) (take (i - 1) p)) (getD p (i - 1) 0)
       (back ∙ at-i ∙ ap (λ (k : ℕ). reached e (pos 0) (take k p)) i-is ∙ reached-before e p (i - 1) (omega arith))
 
-  mark-back : markOf e (take i p) ≡ marked e (i - 1) r (markOf e (take (i - 1) p)) (getD p (i - 1) 0)
-  mark-back =
-      ap (λ (k : ℕ). markOf e (take k p)) i-is
-      ∙ mark-before e p (i - 1) (omega arith)
-      ∙ ap (λ (z : ℤ). marked e (i - 1) z (markOf e (take (i - 1) p)) (getD p (i - 1) 0)) (sym offset-back)
+  lift-back : liftOf e (take i p) ≡ lifted e (i - 1) r (liftOf e (take (i - 1) p)) (getD p (i - 1) 0)
+  lift-back =
+      ap (λ (k : ℕ). liftOf e (take k p)) i-is
+      ∙ lift-before e p (i - 1) (omega arith)
+      ∙ ap (λ (z : ℤ). lifted e (i - 1) z (liftOf e (take (i - 1) p)) (getD p (i - 1) 0)) (sym offset-back)
 
   -- the 0 before place i could be a 1
-  pub mark-found : getD p (i - 1) 0 ≡ 0 → oneAt e r ≡ true → markOf e (take i p) ≡ record { place = i; offset = r }
-  mark-found q k =
-      mark-back
+  pub lift-found : getD p (i - 1) 0 ≡ 0 → oneAt e r ≡ true → liftOf e (take i p) ≡ record { place = i; offset = r }
+  lift-found q k =
+      lift-back
       ∙ (rw (q, k) (ap (λ (x : ℕ). record { place = x; offset = r }) (sym i-is)))
 
   -- it could not, or it is a 1
-  pub mark-stays : (getD p (i - 1) 0 ≡ 0 → oneAt e r ≡ false) → markOf e (take i p) ≡ markOf e (take (i - 1) p)
-  mark-stays f = mark-back ∙ go (getD p (i - 1) 0) refl
+  pub lift-stays : (getD p (i - 1) 0 ≡ 0 → oneAt e r ≡ false) → liftOf e (take i p) ≡ liftOf e (take (i - 1) p)
+  lift-stays f = lift-back ∙ go (getD p (i - 1) 0) refl
     where
-      go : (b : ℕ) → getD p (i - 1) 0 ≡ b → marked e (i - 1) r (markOf e (take (i - 1) p)) b ≡ markOf e (take (i - 1) p)
+      go : (b : ℕ) → getD p (i - 1) 0 ≡ b → lifted e (i - 1) r (liftOf e (take (i - 1) p)) b ≡ liftOf e (take (i - 1) p)
       go zero q = rw (f q)
       go (suc b) q = refl
 
@@ -150,15 +150,15 @@ least-bit e d = go (zeroAt e d)
 
 -- a turn that stores b, the smaller bit that may follow
 module _ (e : Envelope) (p : List ℕ) (n i : ℕ) (d : ℤ) (b : ℕ) (length-is : length p ≡ n) (h : i < n) (is-least : b ≡ leastAt e d) where
-  pub fill-turn : (s : ℤ) → s ≡ onward e d b → take i p ++ filled e d (n - i) ≡ take (i + 1) (set p i b) ++ filled e s (n - (i + 1))
+  pub fill-turn : (s : ℤ) → s ≡ offsetAfter e d b → take i p ++ filled e d (n - i) ≡ take (i + 1) (set p i b) ++ filled e s (n - (i + 1))
   fill-turn s es =
       let m : ℕ = n - (i + 1) in
       let q : n - i ≡ suc m = omega arith in
       let in-p : i < length p = omega arith in
       rw (q, ← is-least, es)
       (sym
-      (ap (λ (r : List ℕ). r ++ filled e (onward e d b) m) (ap (λ (k : ℕ). take k (set p i b)) (add-one i) ∙ take-suc-set p i b in-p)
-      ∙ append-snoc (take i p) b (filled e (onward e d b) m)))
+      (ap (λ (r : List ℕ). r ++ filled e (offsetAfter e d b) m) (ap (λ (k : ℕ). take k (set p i b)) (add-one i) ∙ take-suc-set p i b in-p)
+      ∙ append-snoc (take i p) b (filled e (offsetAfter e d b) m)))
 
 pub fill-end : (e : Envelope) (p : List ℕ) (n i : ℕ) (d : ℤ) → length p ≡ n → n ≤ i → p ≡ take i p ++ filled e d (n - i)
 fill-end e p n i d q h =

@@ -19,7 +19,7 @@ use mir.Val.{SFits, toZ, ofZ}
 use mir.Facts.{toZ-ofZ}
 use Rattle.pattern.specs.Step.{low, high, oneMay, zeroMay}
 use Rattle.pattern.specs.Pattern.{longest, after, may, least, fill}
-use Rattle.pattern.specs.Inner.Scan.{Near, oneAt, zeroAt, mayAt, stepOf, onward, filled, reached, floorOf}
+use Rattle.pattern.specs.Inner.Scan.{Near, oneAt, zeroAt, mayAt, stepOf, offsetAfter, filled, reached, floorOf}
 use Rattle.pattern.proofs.Edges.{leZ-false}
 
 -- two tests of whole numbers that say the same
@@ -40,7 +40,7 @@ module _ (e : Envelope) where
   pub offset-start : offsetOf 0 0 ≡ pos 0
   offset-start = whole-ext (omega (arith, diff (pos (e .n * 0)) (pos (e .l * 0)), mul-zero (e .n), mul-zero (e .l)))
 
-  pub onward-is : (i j b : ℕ) → onward e (offsetOf i j) b ≡ offsetOf (suc i) (after j b)
+  pub onward-is : (i j b : ℕ) → offsetAfter e (offsetOf i j) b ≡ offsetOf (suc i) (after j b)
   onward-is i j zero =
       whole-ext
       (omega (arith, diff (pos (e .n * i)) (pos (e .l * j)), diff (pos (e .n * suc i)) (pos (e .l * j)), sum (offsetOf i j) (pos (e .n)), mul-suc (e .n) i))
@@ -112,17 +112,17 @@ step-near e t (suc b) = (
   omega (arith, down-diff-le (pos (e .n)) (pos (e .l)), t .limits .l-most),
 )
 
-pub near-on : (e : Envelope) → Taken e → (i : ℕ) (d : ℤ) (b : ℕ) → Near i d → Near (suc i) (onward e d b)
+pub near-on : (e : Envelope) → Taken e → (i : ℕ) (d : ℤ) (b : ℕ) → Near i d → Near (suc i) (offsetAfter e d b)
 near-on e t i d b v =
     let r = near-reads i d v in
     let s = step-near e t b in
-    near-shows (suc i) (onward e d b)
+    near-shows (suc i) (offsetAfter e d b)
     (omega (arith, up-sum-le d (stepOf e b)))
     (omega (arith, down-sum-le d (stepOf e b)))
 
 near-from : (e : Envelope) → Taken e → (p : List ℕ) (i : ℕ) (d : ℤ) → Near i d → Near (i + length p) (reached e d p)
 near-from e t [] i d v = rw add-zero v
-near-from e t (b ∷ p) i d v = rw (add-suc, ← suc-add) (near-from e t p (suc i) (onward e d b) (near-on e t i d b v))
+near-from e t (b ∷ p) i d v = rw (add-suc, ← suc-add) (near-from e t p (suc i) (offsetAfter e d b) (near-on e t i d b v))
 
 pub near-reached : (e : Envelope) → Taken e → (p : List ℕ) → Near (length p) (reached e (pos 0) p)
 near-reached e t p = rw zero-add at (near-from e t p 0 (pos 0) near-start)
@@ -132,7 +132,7 @@ pub near-held : (i : ℕ) (d : ℤ) → i ≤ longest → Near i d → toZ w64 (
 near-held i d h v = let r = near-reads i d v in toZ-ofZ (sfits-small (omega arith))
 
 module _ (e : Envelope) (t : Taken e) (d : ℤ) (v : Near longest d) where
-  pub on-fits : (b : ℕ) → SFits w64 (onward e d b)
+  pub on-fits : (b : ℕ) → SFits w64 (offsetAfter e d b)
   on-fits b =
       let r = near-reads longest d v in
       let s = step-near e t b in
@@ -199,10 +199,10 @@ step-is e (suc zero) h = ap (λ (k : ℕ). pos (e .n) -ℤ pos k) (mul-one (e .l
 step-is e (suc (suc b)) h = absurd (omega arith)
 
 -- a step back and the same step on
-pub back-on : (e : Envelope) (d : ℤ) (b : ℕ) → onward e (d -ℤ stepOf e b) b ≡ d
+pub back-on : (e : Envelope) (d : ℤ) (b : ℕ) → offsetAfter e (d -ℤ stepOf e b) b ≡ d
 back-on e d b = whole-ext (omega (arith, sum (d -ℤ stepOf e b) (stepOf e b), diff d (stepOf e b)))
 
-pub on-injective : (e : Envelope) (x y : ℤ) (b : ℕ) → onward e x b ≡ onward e y b → x ≡ y
+pub on-injective : (e : Envelope) (x y : ℤ) (b : ℕ) → offsetAfter e x b ≡ offsetAfter e y b → x ≡ y
 on-injective e x y b q =
     whole-ext (omega (arith, sum x (stepOf e b), sum y (stepOf e b), ap up q, ap down q))
 

@@ -1,4 +1,4 @@
--- What the scan finds is what the answers say, and from its mark comes the successor.
+-- What the scan finds is what the answers say, and from its lift comes the successor.
 -- Assumes nothing.
 use Prim.Native.Nat.{ℕ, zero, suc, _+_, _-_, _≤_}
 use native.Mathlib.Nat.{not-suc-le-zero, le-of-suc-le-suc, add-zero, zero-add, add-suc, suc-add}
@@ -18,7 +18,7 @@ use Rattle.envelope.specs.declared.Envelope.{Envelope}
 use Rattle.envelope.specs.Envelope.{Taken}
 use Rattle.envelope.specs.Inner.Tests.{isTaken}
 use Rattle.envelope.proofs.Tests.{is-taken}
-use Rattle.pattern.specs.declared.Mark.{Mark}
+use Rattle.pattern.specs.declared.Lift.{Lift}
 use Rattle.pattern.specs.declared.Answer.{Answer}
 use Rattle.pattern.specs.declared.Answer.the-variants.{Inside, Refused}
 use Rattle.pattern.specs.declared.Judged.{Judged}
@@ -26,7 +26,7 @@ use Rattle.pattern.specs.declared.Judged.the-variants.{Sound, Unsound}
 use Rattle.pattern.specs.Step.{oneMay, zeroMay}
 use Rattle.pattern.specs.Pattern.{longest, after, may, passed, next, raised, plain}
 use Rattle.pattern.specs.Answer.{stepsOf, nextOf, checkAnswer}
-use Rattle.pattern.specs.Inner.Scan.{Near, oneAt, onward, filled, reached, marked, unmarked, lastMark, markOf, scanned, judged}
+use Rattle.pattern.specs.Inner.Scan.{Near, oneAt, offsetAfter, filled, reached, lifted, noLift, lastLift, liftOf, scanned, judged}
 use Rattle.pattern.proofs.Binary.{Bits}
 use Rattle.pattern.proofs.Offsets.{offsetOf, offset-start, onward-is, one-is, may-is, filled-is, near-start, near-on}
 
@@ -61,20 +61,20 @@ module _ (e : Envelope) where
       go true q ih = rw (← may-is e i j b (h .0), q, onward-is e i j b, leb·suc-suc (suc k) (length p), add-suc i k, ← suc-add i k) ih
       go false q ih = rw (← may-is e i j b (h .0), q, leb·suc-suc 0 (length p), leb·zero, add-zero)
 
-  -- ---- the successor, from the last mark
-  abbrev pub fromMark : List ℕ → ℕ → ℤ → Option (List ℕ)
-  fromMark w zero d = none
-  fromMark w (suc t) d = some (take t w ++ (1 ∷ filled e (onward e d 1) (length w - suc t)))
+  -- ---- the successor, from the last lift
+  abbrev pub fromLift : List ℕ → ℕ → ℤ → Option (List ℕ)
+  fromLift w zero d = none
+  fromLift w (suc t) d = some (take t w ++ (1 ∷ filled e (offsetAfter e d 1) (length w - suc t)))
 
   abbrev front : List ℕ → Option (List ℕ) → Option (List ℕ) → Option (List ℕ)
   front pre none other = other
   front pre (some q) other = some (pre ++ q)
 
-  from-last : (p pre : List ℕ) (i j : ℕ) (m : Mark) → length pre ≡ i → fromMark (pre ++ p) (lastMark e i (offsetOf e i j) m p .place) (lastMark e i (offsetOf e i j) m p .offset) ≡ front pre (next z o i j p) (fromMark (pre ++ p) (m .place) (m .offset))
+  from-last : (p pre : List ℕ) (i j : ℕ) (m : Lift) → length pre ≡ i → fromLift (pre ++ p) (lastLift e i (offsetOf e i j) m p .place) (lastLift e i (offsetOf e i j) m p .offset) ≡ front pre (next z o i j p) (fromLift (pre ++ p) (m .place) (m .offset))
   from-last [] pre i j m h = refl
   from-last (b ∷ p) pre i j m h =
       go (next z o (suc i) (after j b) p) refl
-      (rw (append-snoc pre b p) at (from-last p (pre ++ (b ∷ [])) (suc i) (after j b) (marked e i (offsetOf e i j) m b) (length-append pre (b ∷ []) ∙ add-one (length pre) ∙ ap suc h)))
+      (rw (append-snoc pre b p) at (from-last p (pre ++ (b ∷ [])) (suc i) (after j b) (lifted e i (offsetOf e i j) m b) (length-append pre (b ∷ []) ∙ add-one (length pre) ∙ ap suc h)))
     where
       w : List ℕ
       w = pre ++ (b ∷ p)
@@ -82,54 +82,54 @@ module _ (e : Envelope) where
       d : ℤ
       d = offsetOf e i j
 
-      end : Mark
-      end = lastMark e (suc i) (offsetOf e (suc i) (after j b)) (marked e i d m b) p
+      end : Lift
+      end = lastLift e (suc i) (offsetOf e (suc i) (after j b)) (lifted e i d m b) p
 
-      same : lastMark e i d m (b ∷ p) ≡ end
-      same = ap (λ (x : ℤ). lastMark e (suc i) x (marked e i d m b) p) (onward-is e i j b)
+      same : lastLift e i d m (b ∷ p) ≡ end
+      same = ap (λ (x : ℤ). lastLift e (suc i) x (lifted e i d m b) p) (onward-is e i j b)
 
-      raise : (c : ℕ) (t : Bool) → o i j ≡ t → fromMark w (marked e i d m c .place) (marked e i d m c .offset) ≡ front pre (raised z o i j c (length p)) (fromMark w (m .place) (m .offset))
+      raise : (c : ℕ) (t : Bool) → o i j ≡ t → fromLift w (lifted e i d m c .place) (lifted e i d m c .offset) ≡ front pre (raised z o i j c (length p)) (fromLift w (m .place) (m .offset))
       raise zero true q =
           let el : length w - suc i ≡ length p = omega (arith, length-append pre (b ∷ p)) in
           rw (← one-is e i j, q, take-at pre (b ∷ p) i h, el, onward-is e i j 1, filled-is e (length p) (suc i) (suc j))
       raise zero false q = rw (← one-is e i j, q)
       raise (suc c) t q = refl
 
-      go : (r : Option (List ℕ)) → next z o (suc i) (after j b) p ≡ r → fromMark w (end .place) (end .offset) ≡ front (pre ++ (b ∷ [])) (next z o (suc i) (after j b) p) (fromMark w (marked e i d m b .place) (marked e i d m b .offset)) → fromMark w (lastMark e i d m (b ∷ p) .place) (lastMark e i d m (b ∷ p) .offset) ≡ front pre (next z o i j (b ∷ p)) (fromMark w (m .place) (m .offset))
+      go : (r : Option (List ℕ)) → next z o (suc i) (after j b) p ≡ r → fromLift w (end .place) (end .offset) ≡ front (pre ++ (b ∷ [])) (next z o (suc i) (after j b) p) (fromLift w (lifted e i d m b .place) (lifted e i d m b .offset)) → fromLift w (lastLift e i d m (b ∷ p) .place) (lastLift e i d m (b ∷ p) .offset) ≡ front pre (next z o i j (b ∷ p)) (fromLift w (m .place) (m .offset))
       go none q ih = rw (same, q) ((rw q at ih) ∙ raise b (o i j) refl)
       go (some r) q ih = rw (same, q) ((rw q at ih) ∙ ap {B = Option (List ℕ)} some (append-snoc pre b r))
 
-  pub next-mark : (p : List ℕ) → fromMark p (markOf e p .place) (markOf e p .offset) ≡ nextOf e p
-  next-mark p =
-      subst (λ (d : ℤ). fromMark p (lastMark e 0 d unmarked p .place) (lastMark e 0 d unmarked p .offset) ≡ nextOf e p) (offset-start e)
-      (from-last p [] 0 0 unmarked refl ∙ go (nextOf e p))
+  pub next-lift : (p : List ℕ) → fromLift p (liftOf e p .place) (liftOf e p .offset) ≡ nextOf e p
+  next-lift p =
+      subst (λ (d : ℤ). fromLift p (lastLift e 0 d noLift p .place) (lastLift e 0 d noLift p .offset) ≡ nextOf e p) (offset-start e)
+      (from-last p [] 0 0 noLift refl ∙ go (nextOf e p))
     where
       go : (r : Option (List ℕ)) → front [] r none ≡ r
       go none = refl
       go (some q) = refl
 
-  -- ---- what is known of a mark after i bits
-  pub record Sane (i : ℕ) (m : Mark) : Type 0 where
+  -- ---- what is known of a lift after i bits
+  pub record Sane (i : ℕ) (m : Lift) : Type 0 where
     pub within : m .place ≤ i
     pub near : (t : ℕ) → m .place ≡ suc t → Near t (m .offset)
 
   module _ (t : Taken e) where
-    sane-step : (i : ℕ) (d : ℤ) (m : Mark) (b : ℕ) → Near i d → Sane i m → Sane (suc i) (marked e i d m b)
+    sane-step : (i : ℕ) (d : ℤ) (m : Lift) (b : ℕ) → Near i d → Sane i m → Sane (suc i) (lifted e i d m b)
     sane-step i d m zero v s = go (oneAt e d) refl
       where
-        go : (x : Bool) → oneAt e d ≡ x → Sane (suc i) (marked e i d m zero)
+        go : (x : Bool) → oneAt e d ≡ x → Sane (suc i) (lifted e i d m zero)
         go true q = rw q (record { within = omega arith; near = λ u h. subst (λ (k : ℕ). Near k d) (omega arith) v })
         go false q = rw q (record { within = (let f = s .within in omega arith); near = s .near })
     sane-step i d m (suc b) v s = record { within = (let f = s .within in omega arith); near = s .near }
 
-    sane-last : (p : List ℕ) (i : ℕ) (d : ℤ) (m : Mark) → Near i d → Sane i m → Sane (i + length p) (lastMark e i d m p)
+    sane-last : (p : List ℕ) (i : ℕ) (d : ℤ) (m : Lift) → Near i d → Sane i m → Sane (i + length p) (lastLift e i d m p)
     sane-last [] i d m v s = rw add-zero s
     sane-last (b ∷ p) i d m v s =
-        rw (add-suc, ← suc-add) (sane-last p (suc i) (onward e d b) (marked e i d m b) (near-on e t i d b v) (sane-step i d m b v s))
+        rw (add-suc, ← suc-add) (sane-last p (suc i) (offsetAfter e d b) (lifted e i d m b) (near-on e t i d b v) (sane-step i d m b v s))
 
-    pub sane : (p : List ℕ) → Sane (length p) (markOf e p)
+    pub sane : (p : List ℕ) → Sane (length p) (liftOf e p)
     sane p =
-        rw zero-add at (sane-last p 0 (pos 0) unmarked near-start (record { within = omega arith; near = λ u h. absurd (omega arith) }))
+        rw zero-add at (sane-last p 0 (pos 0) noLift near-start (record { within = omega arith; near = λ u h. absurd (omega arith) }))
 
   -- ---- what is judged, as an answer
   abbrev pub answerOf : Judged → Answer

@@ -15,12 +15,12 @@ use Rattle.envelope.specs.declared.Envelope.{Envelope}
 use Rattle.envelope.specs.Envelope.{Taken}
 use Rattle.envelope.proofs.Held.{k-up, k-down, K-up, K-down}
 use Rattle.envelope.proofs.Tests.{is-true}
-use Rattle.pattern.specs.Inner.Scan.{oneAt, zeroAt, mayAt, stepOf, onward, scanned, leadingOf, floorOf}
+use Rattle.pattern.specs.Inner.Scan.{oneAt, zeroAt, mayAt, stepOf, offsetAfter, scanned, leadingOf, floorOf}
 
 module _ (e : Envelope) where
   -- ---- at x above the floor the bit b leads to y above it
   module _ (x y : ℕ) where
-    pub on-floor : (b : ℕ) → b ≤ 1 → y + e .l * b ≡ x + e .n → pos y +ℤ floorOf e ≡ onward e (pos x +ℤ floorOf e) b
+    pub on-floor : (b : ℕ) → b ≤ 1 → y + e .l * b ≡ x + e .n → pos y +ℤ floorOf e ≡ offsetAfter e (pos x +ℤ floorOf e) b
     on-floor zero bit on =
         whole-ext
         (omega (arith, sum (pos y) (floorOf e), sum (pos x) (floorOf e), sum (pos x +ℤ floorOf e) (pos (e .n)), mul-zero (e .l)))
@@ -50,8 +50,8 @@ module _ (e : Envelope) where
   lead-on (zero ∷ p) i h =
       let k : pos (e .n * (suc i + leadingOf p)) ≤ℤ e .K = subst (λ (t : ℕ). pos (e .n * t) ≤ℤ e .K) (add-suc i (leadingOf p) ∙ sym (suc-add i (leadingOf p))) h in
       let more : e .n * suc i ≤ e .n * (suc i + leadingOf p) = mul-le-mul-left (e .n) (omega arith) in
-      let on : onward e (pos (e .n * i)) 0 ≡ pos (e .n * suc i) = whole-ext (omega (arith, sum (pos (e .n * i)) (pos (e .n)), mul-suc (e .n) i)) in
-      let fits : onward e (pos (e .n * i)) 0 ≤ℤ e .K = rw on (≤ℤ-shows (omega (arith, ≤ℤ-reads k, more))) in
+      let on : offsetAfter e (pos (e .n * i)) 0 ≡ pos (e .n * suc i) = whole-ext (omega (arith, sum (pos (e .n * i)) (pos (e .n)), mul-suc (e .n) i)) in
+      let fits : offsetAfter e (pos (e .n * i)) 0 ≤ℤ e .K = rw on (≤ℤ-shows (omega (arith, ≤ℤ-reads k, more))) in
       rw (is-true (zeroAt e (pos (e .n * i))) (fits .le), on, add-suc i (leadingOf p), ← suc-add i (leadingOf p)) (lead-on p (suc i) k)
 
   pub lead-from : (p : List ℕ) (t : ℕ) → t ≡ leadingOf p → pos (e .n * t) ≤ℤ e .K → scanned e 0 (pos 0) p ≡ scanned e t (pos (e .n * t)) (drop t p)

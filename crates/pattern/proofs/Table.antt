@@ -21,7 +21,7 @@ use Rattle.pattern.specs.Step.{oneMay, zeroMay}
 use Rattle.pattern.specs.Pattern.{longest, after, may, Inside, passed, plain}
 use Rattle.pattern.specs.Answer.{stepsOf, checkAnswer, firstAnswer, nextOf, doneOrLast, ifInside, nextAnswer}
 use Rattle.pattern.specs.Table.{Unfit, Refuses}
-use Rattle.pattern.specs.Walk.{Refusals}
+use Rattle.pattern.specs.Walk.{PatternRefusals}
 use Rattle.pattern.proofs.Loops.{plain-before}
 use Rattle.pattern.proofs.Checks.{Checked, checked, Checked.is-inside, Checked.no-envelope, Checked.too-long, Checked.no-bit, Checked.forbidden, plain-stops, passed-take, passed-stops}
 
@@ -122,7 +122,7 @@ module _ (e : Envelope) (p : List ℕ) where
   unfolding nextAnswer
   next-given number place h = rw h
 
-  pub refusals : Refusals e p
+  pub refusals : PatternRefusals e p
   refusals =
       record {
         check = λ number place. (λ r. listed number place (checkAnswer e p) (checked e p) r, given);

@@ -5,7 +5,6 @@ use mathlib.Core.Path.{_≡_}
 use mathlib.Core.Bool.{cond}
 use mathlib.Core.List.{List}
 use mathlib.Core.Option.{Option, none, some}
-use lib.IntN.{ℤ}
 use lib.ListN.{length}
 use lib.Dec.{ltb}
 use Rattle.reply.specs.Numbers.{noEnvelope, longPattern, notABit, outside}
@@ -22,10 +21,6 @@ answerNumber Inside = 0
 answerNumber Done = 0
 answerNumber Last = 0
 answerNumber (Refused number place) = number
-
--- four numbers as they come
-abbrev pub given : ℤ → ℤ → ℕ → ℕ → Envelope
-given k K l n = record { k = k; K = K; l = l; n = n }
 
 -- "four numbers that are no taken, normal envelope", then "pattern longer than 4,096", both at 0; else a
 abbrev pub admitted : Envelope → List ℕ → Answer → Answer

@@ -49,14 +49,14 @@ pub record Walks (e : Envelope) (m : ℕ) : Type 0 where
   pub nothing-else : (i : ℕ) → i < length met → (length (getD met i []) ≡ m) × Begins e (getD met i [])
 
 -- each refusal is given exactly when the table says, at its place
-pub record Refusals (e : Envelope) (p : List ℕ) : Type 0 where
+pub record PatternRefusals (e : Envelope) (p : List ℕ) : Type 0 where
   pub check : (number place : ℕ) → (checkAnswer e p ≡ Refused number place) ↔ Refuses e p number place
   pub first : (number place : ℕ) → (firstAnswer e p ≡ Refused number place) ↔ Unfit e p number place
   pub next : (number place : ℕ) → (nextAnswer e p ≡ Refused number place) ↔ Refuses e p number place
 
 -- the promises of this crate
 pub record Patterns : Type 0 where
-  pub refusals : (e : Envelope) (p : List ℕ) → Refusals e p
+  pub refusals : (e : Envelope) (p : List ℕ) → PatternRefusals e p
   -- "inside" is answered exactly for the beginnings of endless streams in the envelope, to the longest length
   pub inside : (e : Envelope) → Taken e → (p : List ℕ) → (checkAnswer e p ≡ Inside) ↔ ((length p ≤ longest) × Begins e p)
   -- of a pattern inside, "next" writes the successor where there is one

@@ -5,11 +5,11 @@ ghost use Prim.Native.Nat.{_-_, _≤_, _<_};
 ghost use lib.IntN.{pos, _+ℤ_};
 ghost use lib.Signed.{_≤ℤ_};
 ghost use lib.ListN.{length, take, drop};
-ghost use Rattle.envelope.specs.Envelope.{Taken};
+ghost use Rattle.envelope.specs.Envelope.{numbers, Taken};
 ghost use Rattle.pattern.specs.declared.Judged.the-variants.{Sound};
 ghost use Rattle.pattern.specs.Pattern.{longest, plain};
-ghost use Rattle.pattern.specs.Answer.{given, Checks, Firsts, Nexts};
-ghost use Rattle.pattern.specs.Inner.Scan.{Near, oneAt, zeroAt, mayAt, stepOf, onward, leastAt, filled, reached, scanned, leadingOf, floorOf, markOf, largestFrom, judged};
+ghost use Rattle.pattern.specs.Answer.{Checks, Firsts, Nexts};
+ghost use Rattle.pattern.specs.Inner.Scan.{Near, oneAt, zeroAt, mayAt, stepOf, offsetAfter, leastAt, filled, reached, scanned, leadingOf, floorOf, liftOf, largestFrom, judged};
 use envelope::Envelope;
 
 // A pattern's most bits.
@@ -24,7 +24,7 @@ pub enum Answer {
 }
 
 // The last 0 that could be a 1: its place, plus one, and n*i - l*j there.
-struct Mark {
+struct Lift {
     place: usize,
     offset: i64,
 }
@@ -70,7 +70,7 @@ fn step(e: Envelope, b: u8) -> i64
 // n*i - l*j after the bit b.
 fn moved_on(e: Envelope, d: i64, b: u8) -> i64
     requires { ⌜ Taken e × Near longest d × (b ≤ 1) ⌝ }
-    ensures { λ r. ⌜ r ≡ onward e d b ⌝ }
+    ensures { λ r. ⌜ r ≡ offsetAfter e d b ⌝ }
 {
     d + step(e, b)
 }
@@ -78,7 +78,7 @@ fn moved_on(e: Envelope, d: i64, b: u8) -> i64
 // n*i - l*j before the bit b, where it is d after it.
 fn moved_back(e: Envelope, d: i64, b: u8) -> i64
     requires { ⌜ Taken e × Near longest d × (b ≤ 1) ⌝ }
-    ensures { λ r. ⌜ onward e r b ≡ d ⌝ }
+    ensures { λ r. ⌜ offsetAfter e r b ≡ d ⌝ }
 {
     d - step(e, b)
 }
@@ -189,11 +189,11 @@ fn sweep_or_scan(e: Envelope, pattern: &[u8]) -> Judged
     Judged::Sound(x as i64 + low)
 }
 
-// The mark, looked for from the end: a walk turns bits near it.
-fn last_mark(e: Envelope, pattern: &[u8], end: i64) -> Mark
+// The lift, looked for from the end: a walk turns bits near it.
+fn last_lift(e: Envelope, pattern: &[u8], end: i64) -> Lift
     requires { ⌜ Taken e × (length (now pattern) ≤ longest) × (length (now pattern) ≤ plain (now pattern)) ⌝ }
     requires { ⌜ end ≡ reached e (pos 0) (now pattern) ⌝ }
-    ensures { λ r. ⌜ r ≡ markOf e (now (pattern .entry)) ⌝ }
+    ensures { λ r. ⌜ r ≡ liftOf e (now (pattern .entry)) ⌝ }
 {
     let mut d = end;
     let mut i = pattern.len();
@@ -202,7 +202,7 @@ fn last_mark(e: Envelope, pattern: &[u8], end: i64) -> Mark
         d = moved_back(e, d, b);
         if b == 0 {
             if one_at(e, d) {
-                return Mark {
+                return Lift {
                     place: i,
                     offset: d,
                 };
@@ -210,7 +210,7 @@ fn last_mark(e: Envelope, pattern: &[u8], end: i64) -> Mark
         }
         i -= 1;
     }
-    Mark {
+    Lift {
         place: 0,
         offset: 0,
     }
@@ -283,7 +283,7 @@ fn fill(e: Envelope, pattern: &mut [u8], from: usize, start: i64)
 
 // Inside, or 12 to 15.
 pub fn check(k: i64, K: i64, l: u64, n: u64, pattern: &[u8]) -> Answer
-    ensures { λ r. ⌜ Checks (given k K l n) (now (pattern .entry)) r ⌝ }
+    ensures { λ r. ⌜ Checks (numbers k K l n) (now (pattern .entry)) r ⌝ }
 {
     match judge(Envelope { k, K, l, n }, pattern) {
         Judged::Unsound(number, place) => Answer::Refused(number, place),
@@ -293,7 +293,7 @@ pub fn check(k: i64, K: i64, l: u64, n: u64, pattern: &[u8]) -> Answer
 
 // Fills the slice with the first pattern, or answers 12 or 13.
 pub fn first(k: i64, K: i64, l: u64, n: u64, pattern: &mut [u8]) -> Answer
-    ensures { λ r. ⌜ Firsts (given k K l n) (now (pattern .entry)) r (now (pattern .exit)) ⌝ }
+    ensures { λ r. ⌜ Firsts (numbers k K l n) (now (pattern .entry)) r (now (pattern .exit)) ⌝ }
 {
     let e = Envelope { k, K, l, n };
     if !e.is_taken() {
@@ -308,13 +308,13 @@ pub fn first(k: i64, K: i64, l: u64, n: u64, pattern: &mut [u8]) -> Answer
 
 // Turns the pattern into its successor, answers that it is the last, or 12 to 15.
 pub fn next(k: i64, K: i64, l: u64, n: u64, pattern: &mut [u8]) -> Answer
-    ensures { λ r. ⌜ Nexts (given k K l n) (now (pattern .entry)) r (now (pattern .exit)) ⌝ }
+    ensures { λ r. ⌜ Nexts (numbers k K l n) (now (pattern .entry)) r (now (pattern .exit)) ⌝ }
 {
     let e = Envelope { k, K, l, n };
     match judge(e, pattern) {
         Judged::Unsound(number, place) => Answer::Refused(number, place),
         Judged::Sound(end) => {
-            let m = last_mark(e, pattern, end);
+            let m = last_lift(e, pattern, end);
             let place = m.place;
             if place == 0 {
                 return Answer::Last;

@@ -1,5 +1,4 @@
 // Prints the patterns of an envelope, one to a line, from the first on: patterns k K l n LENGTH [COUNT]
-ghost use mathlib.Core.Path.{_≡_};
 ghost use Prim.Native.Nat.{_+_, _≤_};
 ghost use lib.ListN.{length};
 ghost use Rattle.patterns.specs.Room.{Leaves};

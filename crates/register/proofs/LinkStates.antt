@@ -16,7 +16,7 @@ use Rattle.expression.specs.Expression.{Clock}
 use Rattle.expression.proofs.Lookup.{lookup-there}
 use Rattle.sheet.specs.Sheet.{Link, Every, LinkRow, Legal}
 use Rattle.sheet.specs.SheetRead.{SheetRead}
-use Rattle.sheet.specs.Rooms.{markOf, verdictIn, rowOf, rowsOf, total, sizeOfRow, openRoom, wholeRoom}
+use Rattle.sizing.specs.Rooms.{stateIn, verdictIn, rowOf, rowsOf, total, sizeOfRow, openRoom, wholeRoom}
 use Rattle.sheet.proofs.Spelling.Rows.{each-every}
 use Rattle.register.specs.Inner.Marking.{marked, closeIn}
 use Rattle.register.specs.OpenLinks.{withIf, those, isOpen, untouched, LinkStates}
@@ -43,18 +43,18 @@ closed-from false true h = inr refl
 closed-from false false h = absurd (omega arith)
 
 abbrev isMarked : SheetRead → ℕ → Bool
-isMarked o i = eqb (markOf (getElem? (o .sheet .clocks) i)) 1
+isMarked o i = eqb (stateIn (getElem? (o .sheet .clocks) i)) 1
 
 -- a mark of 1 is that of a clock
 marked-closed : (o : SheetRead) (i : ℕ) → isMarked o i ≡ true → HasMark o i 1
 marked-closed o i h = go (getElem? (o .sheet .clocks) i) refl (eqb-true _ 1 h)
   where
-    go : (r : Option Clock) → getElem? (o .sheet .clocks) i ≡ r → markOf r ≡ 1 → HasMark o i 1
+    go : (r : Option Clock) → getElem? (o .sheet .clocks) i ≡ r → stateIn r ≡ 1 → HasMark o i 1
     go none e p = absurd (omega arith)
     go (some k) e p = (k, e, p)
 
 closed-marked : (o : SheetRead) (i : ℕ) → HasMark o i 1 → isMarked o i ≡ true
-closed-marked o i h = eq-eqb _ 1 (ap markOf (h .1) ∙ h .2)
+closed-marked o i h = eq-eqb _ 1 (ap stateIn (h .1) ∙ h .2)
 
 -- ---- the row of a link, by its state
 abbrev rowAt : SheetRead → Link → ℕ → Row

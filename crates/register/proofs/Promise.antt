@@ -14,7 +14,7 @@ use Rattle.sheet.specs.Sheet.{ClockRow}
 use Rattle.sheet.specs.Reader.{readSheet}
 use Rattle.sheet.specs.SheetRead.{SheetRead}
 use Rattle.sheet.specs.Format.{Passed}
-use Rattle.sheet.specs.Rooms.{rowsOf}
+use Rattle.sizing.specs.Rooms.{rowsOf}
 use Rattle.sheet.specs.Locating.{clockPlace}
 use Rattle.sheet.proofs.Refusing.Format.{accepted-passed, passed-accepted, one-passed}
 use Rattle.sheet.proofs.Refusing.Numbers.{one-to-ten}

@@ -10,7 +10,7 @@ use Rattle.field.specs.Spelling.{AllBytes}
 use Rattle.sheet.specs.Sheet.{Link}
 use Rattle.sheet.specs.SheetRead.{SheetRead}
 use Rattle.sheet.specs.Format.{Passed}
-use Rattle.sheet.specs.Rooms.{rowOf, rowsOf, total, sizeOfRow, openRoom}
+use Rattle.sizing.specs.Rooms.{rowOf, rowsOf, total, sizeOfRow, openRoom}
 use Rattle.register.specs.Table.{HasMark}
 use Rattle.register.specs.Promise.{ClosedInTurn, among}
 

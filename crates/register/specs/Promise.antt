@@ -11,7 +11,7 @@ use Rattle.expression.specs.Expression.{Clock}
 use Rattle.sheet.specs.Sheet.{Link}
 use Rattle.sheet.specs.SheetRead.{SheetRead}
 use Rattle.sheet.specs.Format.{ClockAt, Passed}
-use Rattle.sheet.specs.Rooms.{rowOf, wholeRoom}
+use Rattle.sizing.specs.Rooms.{rowOf, wholeRoom}
 use Rattle.register.specs.declared.Closing.{Closing}
 use Rattle.register.specs.Closing.{Closes}
 

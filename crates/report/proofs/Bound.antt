@@ -22,10 +22,10 @@ use Rattle.expression.specs.Inner.Nodes.{AllTaken}
 use Rattle.sheet.specs.Sheet.{Link, LinkRow, Each}
 use Rattle.sheet.specs.Reader.{readSheet}
 use Rattle.sheet.specs.SheetRead.{SheetRead}
-use Rattle.sheet.specs.Rooms.{rowOf, rowsOf, total, sizeOfRow}
-use Rattle.sheet.specs.Inner.Sections.{stateOfClock}
-use Rattle.sheet.proofs.Tables.LinkRows.{row-small, open-most}
-use Rattle.sheet.proofs.Promise.{served}
+use Rattle.sizing.specs.Rooms.{rowOf, rowsOf, total, sizeOfRow}
+use Rattle.reading.specs.Inner.Sections.{stateOfClock}
+use Rattle.sizing.proofs.LinkRows.{row-small, open-most}
+use Rattle.sizing.proofs.Served.{served}
 use Rattle.sheet.proofs.Spelling.Sheets.{sheet-reads}
 use Rattle.line.specs.Text.{decimal, lineOf}
 use Rattle.line.proofs.Digits.{length-most}

@@ -12,7 +12,7 @@ use Rattle.field.specs.Run.{run}
 use Rattle.expression.specs.Format.{parts, expression}
 use Rattle.expression.specs.Reader.{exprAt}
 use Rattle.sheet.specs.Reader.{rowsAt, sectionAt, bitsAt, wordAt, clockAt, linkAt, linksOn, clocksOn, readFrom, readSheet}
-use Rattle.sheet.specs.Rooms.{total}
+use Rattle.sizing.specs.Rooms.{total}
 use Rattle.line.specs.Text.{lastDigits, digits, decimal, lineOf}
 use Rattle.report.specs.Listing.{clockLines, linkLines, wholeText, listingOf}
 use Rattle.report.specs.Figures.{given, said}

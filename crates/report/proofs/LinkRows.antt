@@ -8,8 +8,9 @@ use lib.Seq.{drop-length}
 use Rattle.envelope.specs.declared.Node.{Node}
 use Rattle.link.specs.declared.Row.{Row}
 use Rattle.sheet.specs.Sheet.{Link}
-use Rattle.sheet.specs.Inner.Sections.{linksOf, linkIn, rowAt, rowsIn}
-use Rattle.sheet.proofs.Tables.LinkTable.{links-many, left-link}
+use Rattle.reading.specs.Inner.Sections.{linksOf, linkIn}
+use Rattle.sizing.specs.Inner.Rows.{rowAt, rowsIn}
+use Rattle.reading.proofs.Tables.LinkTable.{links-many, left-link}
 use Rattle.line.specs.Text.{outOf, put, putLine, lineOf}
 use Rattle.line.specs.Letters.{letters}
 use Rattle.line.proofs.Puts.{put-more}

@@ -11,9 +11,9 @@ use Rattle.field.specs.Read.{Read.got, Read.refused}
 use Rattle.field.proofs.Read.{through, cond-left}
 use Rattle.sheet.specs.Reader.{readSheet}
 use Rattle.sheet.specs.SheetRead.{SheetRead}
-use Rattle.sheet.specs.Rooms.{rowOf, rowsOf, openRoom, wholeRoom}
-use Rattle.sheet.specs.WorkOut.{workedOf, clockNumbers, linkNumbers, flatten}
-use Rattle.sheet.proofs.Tables.Written.{flatten-length}
+use Rattle.sizing.specs.Rooms.{rowOf, rowsOf, openRoom, wholeRoom}
+use Rattle.sizing.specs.WorkOut.{workedOf, clockNumbers, linkNumbers, flatten}
+use Rattle.sizing.proofs.Written.{flatten-length}
 use Rattle.report.specs.Listing.{refusedLine, wholeText, textOf, listingOf}
 use Rattle.report.proofs.Bound.{listing-most}
 use Rattle.report.specs.Promise.{sheetLines, Shows, Listing}

@@ -11,18 +11,18 @@ use Rattle.field.specs.Spelling.{AllBytes}
 use Rattle.envelope.specs.declared.Node.{Node}
 use Rattle.link.specs.declared.Row.{Row}
 use Rattle.expression.specs.Inner.Nodes.{perNode}
-use Rattle.sheet.specs.declared.Found.{Found}
-use Rattle.sheet.specs.declared.Rooms.{Rooms}
+use Rattle.reading.specs.declared.Found.{Found}
+use Rattle.sizing.specs.declared.Rooms.{Rooms}
 use Rattle.sheet.specs.Reader.{readSheet}
 use Rattle.sheet.specs.SheetRead.{SheetRead}
-use Rattle.sheet.specs.Inner.Sections.{foundOf, Tabled}
-use Rattle.sheet.proofs.Tables.Outcome.{rows-are, links-is, table-is, states}
+use Rattle.reading.specs.Inner.Sections.{foundOf, Tabled}
+use Rattle.sizing.proofs.Outcome.{rows-are, links-is, table-is, states}
 use Rattle.line.specs.Text.{Out, outOf, top, putLine, Put}
 use Rattle.line.proofs.Puts.{put-then, put-line, put-at, put-fits}
 use Rattle.report.specs.declared.Listed.{Listed}
 use Rattle.report.specs.declared.Summed.{Summed}
 use Rattle.line.specs.Letters.{letters}
-use Rattle.report.specs.Listing.{roomFields, clockLines, wholeText, sheetText, fitted, over, listedOf, textAfter, ListsInto}
+use Rattle.report.specs.Listing.{roomFields, clockLines, wholeText, sheetText, fittedText, over, listedOf, textAfter, ListsInto}
 use Rattle.report.specs.Inner.Parts.{LinksPut, tableText}
 
 -- `need` is what an empty buffer measured
@@ -30,12 +30,12 @@ module _ (t text : List ℕ) (fits : length text < top) (xs : List ℕ) (need : 
   need-is : need ≡ min (length t) top
   need-is = put-at [] xs t 0 need (omega arith) m ∙ omega arith
 
-  pub text-short : length text < need → ((Listed.Refused 11 0) ≡ fitted t (length text)) × (text ≡ over t text)
+  pub text-short : length text < need → ((Listed.Refused 11 0) ≡ fittedText t (length text)) × (text ≡ over t text)
   text-short h =
       let less : length text < length t = omega (arith, need-is) in
       rw (lt-leb (length t) (length text) less) (refl, refl)
 
-  pub text-fits : need ≤ length text → (text′ : List ℕ) (r : ℕ) → Put text 0 t text′ r → (Listed.Text need ≡ fitted t (length text)) × (text′ ≡ over t text)
+  pub text-fits : need ≤ length text → (text′ : List ℕ) (r : ℕ) → Put text 0 t text′ r → (Listed.Text need ≡ fittedText t (length text)) × (text′ ≡ over t text)
   text-fits h text′ r p =
       let most : length t ≤ length text = omega (arith, need-is) in
       let is : need ≡ length t = omega (arith, need-is) in
@@ -65,10 +65,10 @@ module _ (s text : List ℕ) where
     text-is =
         rw (links-is s bytes o c read f f-is t ss es tabled, table-is s bytes o c read f f-is t ss es tabled, states s bytes o c read f f-is t ss es tabled, rows-are o (o .sheet .links))
 
-    pub listed-good : (text′ : List ℕ) (r : Listed) → (r ≡ fitted readText (length text)) × (text′ ≡ over readText text) → ListsInto s text r text′
+    pub listed-good : (text′ : List ℕ) (r : Listed) → (r ≡ fittedText readText (length text)) × (text′ ≡ over readText text) → ListsInto s text r text′
     unfolding listedOf textAfter
     listed-good text′ r h =
         record {
-          answer-is = rw read (h .0 ∙ ap (λ (x : List ℕ). fitted x (length text)) text-is);
+          answer-is = rw read (h .0 ∙ ap (λ (x : List ℕ). fittedText x (length text)) text-is);
           text-is = rw read (h .1 ∙ ap (λ (x : List ℕ). over x text) text-is);
         }

@@ -2,7 +2,7 @@
 use mathlib.Core.List.{List, [], _∷_, _++_}
 use Prim.Native.Nat.{ℕ}
 use Rattle.line.specs.Letters.{letters}
-use Rattle.sheet.specs.Figures.{document}
+use Rattle.sizing.specs.Figures.{document}
 use Rattle.report.specs.Listing.{listingOf}
 
 abbrev pub given : List (List ℕ)

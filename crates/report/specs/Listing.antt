@@ -16,7 +16,7 @@ use Rattle.link.specs.Link.{sizeIn, openSizeOf}
 use Rattle.sheet.specs.Reader.{readSheet}
 use Rattle.expression.specs.Expression.{Clock}
 use Rattle.sheet.specs.SheetRead.{SheetRead}
-use Rattle.sheet.specs.Rooms.{rowsOf, total, sizeOfRow}
+use Rattle.sizing.specs.Rooms.{rowsOf, total, sizeOfRow}
 use Rattle.line.specs.Letters.{letters}
 use Rattle.line.specs.Text.{digits, decimal, lineOf, outcomeFields}
 use Rattle.report.specs.declared.Listed.{Listed}
@@ -84,8 +84,8 @@ unfoldable pub listingOf : List ℕ → List ℕ
 listingOf s = textOf (readSheet s)
 
 -- the length of a text; "a lent result slice is too short" is 11, at 0
-abbrev pub fitted : List ℕ → ℕ → Listed
-fitted t room = cond (leb (length t) room) (Listed.Text (length t)) (Listed.Refused 11 0)
+abbrev pub fittedText : List ℕ → ℕ → Listed
+fittedText t room = cond (leb (length t) room) (Listed.Text (length t)) (Listed.Refused 11 0)
 
 -- the buffer at the end: the text and what stood past it, or all as it was
 abbrev pub over : List ℕ → List ℕ → List ℕ
@@ -93,7 +93,7 @@ over t text = cond (leb (length t) (length text)) (sets text 0 t) text
 
 -- a refused sheet's number and place go straight back, and nothing is written
 abbrev pub listedIn : Read SheetRead → ℕ → Listed
-listedIn (got o c) room = fitted (sheetText o) room
+listedIn (got o c) room = fittedText (sheetText o) room
 listedIn (refused number place) room = Listed.Refused number place
 
 abbrev pub textIn : Read SheetRead → List ℕ → List ℕ

@@ -8,9 +8,9 @@ use Rattle.field.specs.Read.{Read, Read.got, Read.refused}
 use Rattle.field.specs.Spelling.{AllBytes}
 use Rattle.sheet.specs.Reader.{readSheet}
 use Rattle.sheet.specs.SheetRead.{SheetRead}
-use Rattle.sheet.specs.Rooms.{rowsOf, openRoom, wholeRoom}
-use Rattle.sheet.specs.Inner.Sections.{stateOfClock}
-use Rattle.sheet.specs.WorkOut.{workedOf, replyOf, clockNumbers, linkNumbers, flatten, clocksOut, linksOut}
+use Rattle.sizing.specs.Rooms.{rowsOf, openRoom, wholeRoom}
+use Rattle.reading.specs.Inner.Sections.{stateOfClock}
+use Rattle.sizing.specs.WorkOut.{workedOf, replyOf, clockNumbers, linkNumbers, flatten, clocksOut, linksOut}
 use Rattle.line.specs.Text.{lineOf}
 use Rattle.line.specs.Letters.{letters}
 use Rattle.report.specs.Listing.{roomFields, refusedLine, clockLines, linkLines, sheetText, listingMost, listingOf}

@@ -3,9 +3,10 @@ ghost use mathlib.Core.Path.{_≡_};
 ghost use lib.ListN.{length};
 ghost use Rattle.line.specs.Text.{outOf, putField, putFields, putLine, Put};
 ghost use Rattle.expression.specs.Inner.Nodes.{nodesIn};
-ghost use Rattle.sheet.specs.Inner.Sections.{linksOf, rowsIn, Ready};
+ghost use Rattle.reading.specs.Inner.Sections.{linksOf};
+ghost use Rattle.sizing.specs.Inner.Rows.{rowsIn, Ready};
 ghost use Rattle.line.specs.Letters.{letters};
-ghost use Rattle.report.specs.Listing.{stateWord, verdictWord, envelopeFields, clockFields, linkFields, roomFields, clockLines, fitted, over, ListsInto};
+ghost use Rattle.report.specs.Listing.{stateWord, verdictWord, envelopeFields, clockFields, linkFields, roomFields, clockLines, fittedText, over, ListsInto};
 ghost use Rattle.report.specs.Inner.Parts.{Many, LinksPut, tableText};
 use envelope::Envelope;
 use expression::PER_NODE;
@@ -17,8 +18,8 @@ use line::put_digits_field;
 use line::put_word_field;
 use link::Row;
 use link::Verdict;
-use sheet::Reading;
-use sheet::Rooms;
+use reading::Reading;
+use sizing::Rooms;
 
 // No listing is longer.
 pub const TEXT_MOST: usize = 18_463;
@@ -119,7 +120,7 @@ fn put_links(
     let mut i: usize = 0;
     let mut rooms = Rooms::none();
     while i < n {
-        let r = sheet::row(ends, i, table, states);
+        let r = sizing::row(ends, i, table, states);
         at = put_link(out, at, i, r);
         rooms = rooms.plus(r);
         i += 1;
@@ -147,7 +148,7 @@ pub enum Listed {
 // An empty buffer measures the text.
 fn list_read(table: &[i32], states: &[u8], ends: &[u8], n: usize, text: &mut [u8]) -> Listed
     requires { ⌜ Ready (now table) (now states) (now ends) n ⌝ }
-    ensures listed { λ r. ⌜ r ≡ fitted (tableText (now (table .entry)) (now (states .entry)) (now (ends .entry))) (length (now (text .entry))) ⌝ }
+    ensures listed { λ r. ⌜ r ≡ fittedText (tableText (now (table .entry)) (now (states .entry)) (now (ends .entry))) (length (now (text .entry))) ⌝ }
     ensures text { λ _. ⌜ now (text .exit) ≡ over (tableText (now (table .entry)) (now (states .entry)) (now (ends .entry))) (now (text .entry)) ⌝ }
 {
     let mut none = [0u8; 0];
@@ -166,7 +167,7 @@ pub fn list(sheet: &[u8], text: &mut [u8]) -> Listed
     let mut table = [0i32; 512];
     let mut states = [0u8; 128];
     let mut ends = [0u8; 512];
-    match sheet::read(sheet, &mut table, &mut states, &mut ends) {
+    match reading::read(sheet, &mut table, &mut states, &mut ends) {
         Reading::Refused(number, place) => Listed::Refused(number, place),
         Reading::Got(f) => {
             let m = f.clocks;

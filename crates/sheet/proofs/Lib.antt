@@ -1,6 +1,3 @@
 pub mod Refusing
 pub mod Spelling
-pub mod Served
 pub mod Promise
-pub mod Tables
-pub mod Finding

@@ -6,9 +6,8 @@ use lib.ListN.{length}
 use Rattle.field.specs.Read.{Read.got}
 use Rattle.field.specs.Spelling.{AllBytes}
 use Rattle.sheet.specs.Reader.{readSheet}
-use Rattle.sheet.specs.Promise.{Tie, Served, Refusals}
+use Rattle.sheet.specs.Promise.{Tie, Refusals}
 use Rattle.sheet.proofs.Spelling.Sheets.{Opens, sheet-reads, sheet-read, one-sheet}
-use Rattle.sheet.proofs.Served.{meant, link-serves}
 use Rattle.sheet.proofs.Refusing.Format.{refused-listed, listed-refused, accepted-passed, passed-accepted}
 use Rattle.sheet.proofs.Refusing.Faults.{within, first-fault, bytes-after, by-rules, cut-short}
 
@@ -18,14 +17,6 @@ tie s bytes =
       accepted-is-spelled = λ o c h. let p : Opens s o c = sheet-reads s bytes o c h in (p .legal, p .worked, p .bytes, p .end);
       spelled-is-accepted = λ v xs l w e. ap readSheet e ∙ sheet-read v xs l w ∙ ap (λ (t : List ℕ). got (record { sheet = v; table = xs }) (length t)) (sym e);
       one-sheet = one-sheet;
-    }
-
-pub served : (s : List ℕ) → AllBytes s → Served s
-served s bytes =
-    record {
-      serves = link-serves s bytes;
-      some-stream = λ o c h. meant s bytes o c h .clock-some;
-      taken = λ o c h. meant s bytes o c h .clock-taken;
     }
 
 pub refusals : (s : List ℕ) → AllBytes s → Refusals s

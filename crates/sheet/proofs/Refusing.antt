@@ -2,4 +2,3 @@
 pub mod Format
 pub mod Faults
 pub mod Numbers
-pub mod Table

@@ -1,8 +1,7 @@
 -- "The sheet, byte by byte", and "Reply numbers" 1 to 10: which refusal a text gives, and where, without a reader.
 use mathlib.Core.Bool.{cond}
-use mathlib.Core.Logic.{_⊎_}
 use mathlib.Core.List.{List, [], _∷_, _++_, map}
-use Prim.Native.Nat.{ℕ, zero, suc, _+_, _*_, _≤_, _<_}
+use Prim.Native.Nat.{ℕ, zero, suc, _+_, _≤_, _<_}
 use lib.Dec.{leb}
 use lib.ListN.{length}
 use Rattle.field.specs.Format.{Judged, Judged.passes, Judged.fails, Format, Format.known, Format.field, Format.then, Format.tested, Piece, Fault, ranged}
@@ -81,9 +80,3 @@ pub data Refused (s : List ℕ) : ℕ → ℕ → Type 0 where
 pub record Passed (s : List ℕ) (o : SheetRead) : Type 0 where
   pub short-enough : length s ≤ bytesMost
   pub right : Piece s sheet 0 o (length s)
-
--- "Reply numbers", 1 to 11, where so many numbers are lent for the clocks and so many for the links
-pub data WorkRefused (s : List ℕ) (clocks links : ℕ) : ℕ → ℕ → Type 0 where
-  in-sheet : {number place : ℕ} → Refused s number place → WorkRefused s clocks links number place
-  -- 11: "a lent result slice is too short": 0. "11 comes after the whole sheet has passed."
-  too-short : (o : SheetRead) → Passed s o → (clocks < 4 * length (o .table)) ⊎ (links < 3 * length (o .sheet .links)) → WorkRefused s clocks links 11 0

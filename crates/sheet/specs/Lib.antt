@@ -2,9 +2,5 @@ pub mod Sheet
 pub mod SheetRead
 pub mod Reader
 pub mod Format
-pub mod Rooms
 pub mod Locating
-pub mod WorkOut
 pub mod Promise
-pub mod Figures
-pub mod Inner

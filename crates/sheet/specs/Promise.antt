@@ -1,29 +1,22 @@
 -- What is proved of sheets, one field for each promise: of a text s of bytes.
 use mathlib.Core.Path.{_≡_}
-use mathlib.Core.Logic.{_⊎_, _≢_, _↔_}
+use mathlib.Core.Logic.{_≢_, _↔_}
 use mathlib.Core.List.{List, _∷_, _++_}
-use mathlib.Core.Option.{some}
 use Prim.Native.Nat.{ℕ, _+_, _≤_, _<_}
-use lib.ListN.{length, getElem?}
+use lib.ListN.{length}
 use Rattle.reply.specs.Numbers.{missing, trailing}
 use Rattle.field.specs.Read.{Read.got, Read.refused}
 use Rattle.field.specs.Spelling.{bytesOf}
 use Rattle.field.specs.Format.{Fault}
 use Rattle.envelope.specs.declared.Node.{Node}
-use Rattle.envelope.specs.Stream.{Stream, Lies}
-use Rattle.link.specs.declared.Verdict.the-variants.{Accepted}
-use Rattle.link.specs.Promise.{Serves}
-use Rattle.expression.specs.Expression.{Word, Expr, Clock, spellWord, spellClock}
-use Rattle.expression.specs.Stands.{Stands}
+use Rattle.expression.specs.Expression.{Word, Clock, spellWord, spellClock}
 use Rattle.expression.specs.Evaluate.{Worth.fault, evaluate, wordNodes, Worked}
-use Rattle.expression.specs.Inner.Nodes.{AllTaken}
 use Rattle.expression.specs.Spelled.{InRange}
 use Rattle.expression.specs.Blame.{blame}
-use Rattle.sheet.specs.Sheet.{Link, Sheet, wordsMost, clocksMost, bytesMost, rows, section, spellSheet, Every, WordRow, ClockRow, Legal}
+use Rattle.sheet.specs.Sheet.{Sheet, wordsMost, clocksMost, bytesMost, rows, section, spellSheet, Every, WordRow, ClockRow, Legal}
 use Rattle.sheet.specs.Reader.{readSheet}
 use Rattle.sheet.specs.SheetRead.{SheetRead}
 use Rattle.sheet.specs.Format.{sheet, Refused, Passed}
-use Rattle.sheet.specs.Rooms.{verdictIn}
 
 -- bytes and values are tied
 pub record Tie (s : List ℕ) : Type 0 where
@@ -36,22 +29,6 @@ pub record Tie (s : List ℕ) : Type 0 where
   -- no two of them are spelled the same
   pub one-sheet : (v u : Sheet) (xs ys : List Node) → Legal v → Legal u → Worked (v .words) (v .clocks) xs → Worked (u .words) (u .clocks) ys → spellSheet v ≡ spellSheet u
       → (v ≡ u) × (xs ≡ ys)
-
--- "whichever streams the two clocks can stand for, or any others inside their envelopes": a is one that clock i can stand for, or lies in its envelope
-abbrev pub StreamOf : SheetRead → ℕ → Stream → Type 0
-StreamOf o i a = Stands (o .sheet .words) (o .sheet .clocks) (Expr.clock i) a ⊎ ((x : Node) × (getElem? (o .table) i ≡ some x) × Lies a (x .envelope))
-
--- what an accepted sheet's links keep to
-pub record Served (s : List ℕ) : Type 0 where
-  -- for every accepted link, after any number of instants, reads never exceed writes, and writes minus reads never exceed the size given
-  pub serves : (o : SheetRead) (c : ℕ) → readSheet s ≡ got o c → (m : ℕ) (l : Link) (size : ℕ)
-      → getElem? (o .sheet .links) m ≡ some l → verdictIn (o .table) l ≡ Accepted size
-      → (a b : Stream) → StreamOf o (l .producer) a → StreamOf o (l .consumer) b → Serves a b size
-  -- every clock can stand for some stream
-  pub some-stream : (o : SheetRead) (c : ℕ) → readSheet s ≡ got o c → (i : ℕ) → i < length (o .sheet .clocks)
-      → (a : Stream) × Stands (o .sheet .words) (o .sheet .clocks) (Expr.clock i) a
-  -- every envelope in the table is taken
-  pub taken : (o : SheetRead) (c : ℕ) → readSheet s ≡ got o c → AllTaken (o .table)
 
 -- a text that is right up to a clock k: the words, a count, the clocks before k with their nodes xs, then k, and any bytes
 pub record UpTo (s : List ℕ) (words : List Word) (clocks : List Clock) (xs : List Node) (k : Clock) : Type 0 where

@@ -6,7 +6,7 @@ use Prim.Native.Nat.{ℕ, _+_, _*_, _≤_}
 use lib.IntN.{ℤ, pos, natAbs}
 use lib.ListN.{length, getD, getElem?}
 use Rattle.envelope.specs.declared.Node.{Node}
-use Rattle.envelope.specs.Envelope.{Taken}
+use Rattle.envelope.specs.Envelope.{numbers, Taken}
 use Rattle.envelope.specs.Made.{nodeOf}
 
 -- how many numbers a node has
@@ -25,7 +25,7 @@ abbrev pub HasNode : List ℤ → ℕ → Type 0
 HasNode t i = perNode * i + perNode ≤ length t
 
 abbrev pub nodeFrom : ℤ → ℤ → ℤ → ℤ → Node
-nodeFrom k K l n = nodeOf (record { k = k; K = K; l = natAbs l; n = natAbs n })
+nodeFrom k K l n = nodeOf (numbers k K (natAbs l) (natAbs n))
 
 -- the nodes that a slice holds
 unfoldable pub nodesIn : List ℤ → List Node
@@ -44,6 +44,6 @@ abbrev pub AllTaken : List Node → Type 0
 AllTaken xs = (i : ℕ) (x : Node) → getElem? xs i ≡ some x → Taken (x .envelope)
 
 -- a slice that holds whole nodes, each taken
-pub record Holds (t : List ℤ) : Type 0 where
+pub record HoldsNodes (t : List ℤ) : Type 0 where
   pub flat-is : flats (nodesIn t) ≡ t
   pub taken : AllTaken (nodesIn t)

@@ -7,7 +7,7 @@ use mir.Facts.{toZ-ofZ}
 use mir.Syntax.{w64}
 use mir.Val.{toZ, ofZ}
 use Rattle.whole.proofs.Machine.{told, fits-by, back-by}
-use Rattle.pattern.specs.Inner.Scan.{stepOf, onward}
+use Rattle.pattern.specs.Inner.Scan.{stepOf, offsetAfter}
 use Rattle.pattern.proofs.Offsets.{back-fits, back-on}
 use Rattle.pattern.proofs.moved_back.Statement.{statement}
 use Rattle.pattern.proofs.moved_back.Tie as tie
@@ -27,7 +27,7 @@ sub-result c =
 returns : tie.Need-returns
 returns c =
     let s = c .before in
-    ap (λ (z : ℤ). onward (s .args .e) z (s .args .b)) (back-by _-ℤ_ (toZ-ofZ (s .fits .d)) (step-held c) (back-fits (s .args .e) (s .pre .0) (s .args .d) (s .pre .1) (s .args .b)))
+    ap (λ (z : ℤ). offsetAfter (s .args .e) z (s .args .b)) (back-by _-ℤ_ (toZ-ofZ (s .fits .d)) (step-held c) (back-fits (s .args .e) (s .pre .0) (s .args .d) (s .pre .1) (s .args .b)))
     ∙ back-on (s .args .e) (s .args .d) (s .args .b)
 
 pub moved-back-spec : {M : Type 1} → statement M

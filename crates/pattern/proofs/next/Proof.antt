@@ -7,7 +7,7 @@ use lib.ListN.{length-set}
 use Rattle.envelope.specs.declared.Envelope.{Envelope}
 use Rattle.pattern.specs.declared.Judged.the-variants.{Sound}
 use Rattle.pattern.specs.Inner.Scan.{judged}
-use Rattle.pattern.proofs.Answers.{heldOf, nexts-given, next-bad, next-last, next-done, within, short, taken, all-bits, end-held, near-held-mark, near-after}
+use Rattle.pattern.proofs.Answers.{heldOf, nexts-given, next-bad, next-last, next-done, within, short, taken, all-bits, end-held, near-held-lift, near-after}
 use Rattle.pattern.proofs.next.Statement.{statement}
 use Rattle.pattern.proofs.next.Tie as tie
 
@@ -15,7 +15,7 @@ abbrev held : tie.Start → Envelope
 held s = heldOf (s .args .k) (s .args .K) (s .args .l) (s .args .n)
 
 -- a pattern that is inside, as `judge` has it
-sound : (c : tie.After-last-mark-arg) → Sound (c .before .before .end .given .0 .0) ≡ judged (held (c .before .before .before .before .before .before .before)) (c .before .before .before .before .before .before .before .args .pattern .now)
+sound : (c : tie.After-last-lift-arg) → Sound (c .before .before .end .given .0 .0) ≡ judged (held (c .before .before .before .before .before .before .before)) (c .before .before .before .before .before .before .before .args .pattern .now)
 sound c = let k = c .before .before in sym (k .end .given .1) ∙ k .before .before .judge .ensures
 
 judge-requires : tie.Need-judge-requires
@@ -27,8 +27,8 @@ enum-known-number c = search needs
 enum-known-end : tie.Need-enum-known-end
 enum-known-end c = search needs
 
-last-mark-requires : tie.Need-last-mark-requires
-last-mark-requires c κs =
+last-lift-requires : tie.Need-last-lift-requires
+last-lift-requires c κs =
     let s = c .before .before .before .before .before .before .before in
     let p = s .args .pattern .now in
     let end = c .before .before .end .given .0 .0 in (
@@ -45,7 +45,7 @@ returns c =
     let a = w .before in
     let s = a .before .before .before .before .before .before .before in
     nexts-given (s .args .k) (s .args .K) (s .args .l) (s .args .n) (s .fits .k) (s .fits .K)
-    (next-last (held s) (s .args .pattern .now) (a .before .before .end .given .0 .0) (sound a) (w .last-mark .result) (w .last-mark .ensures) (c .if1 .taken))
+    (next-last (held s) (s .args .pattern .now) (a .before .before .end .given .0 .0) (sound a) (w .last-lift .result) (w .last-lift .ensures) (c .if1 .taken))
 
 sub-pattern : tie.Need-sub-pattern
 sub-pattern c = search needs
@@ -55,7 +55,7 @@ slice-write-pattern c =
     let w = c .before in
     let a = w .before in
     let s = a .before .before .before .before .before .before .before in
-    omega (arith, within (held s) (s .args .pattern .now) (a .before .before .end .given .0 .0) (sound a) (w .last-mark .result) (w .last-mark .ensures) (c .if1 .left), c .if1 .left)
+    omega (arith, within (held s) (s .args .pattern .now) (a .before .before .end .given .0 .0) (sound a) (w .last-lift .result) (w .last-lift .ensures) (c .if1 .left), c .if1 .left)
 
 moved-on-requires : tie.Need-moved-on-requires
 moved-on-requires c κs =
@@ -65,7 +65,7 @@ moved-on-requires c κs =
     let s = a .before .before .before .before .before .before .before in
     let p = s .args .pattern .now in
     let end = a .before .before .end .given .0 .0 in
-    (taken (held s) p end (sound a), near-held-mark (held s) p end (sound a) (w .last-mark .result) (w .last-mark .ensures) (t .if1 .left), omega arith)
+    (taken (held s) p end (sound a), near-held-lift (held s) p end (sound a) (w .last-lift .result) (w .last-lift .ensures) (t .if1 .left), omega arith)
 
 fill-requires : tie.Need-fill-requires
 fill-requires c κs =
@@ -76,12 +76,12 @@ fill-requires c κs =
     let s = a .before .before .before .before .before .before .before in
     let p = s .args .pattern .now in
     let end = a .before .before .end .given .0 .0 in
-    let m = w .last-mark .result in
-    let is-mark = w .last-mark .ensures in (
+    let m = w .last-lift .result in
+    let is-lift = w .last-lift .ensures in (
       taken (held s) p end (sound a),
       rw length-set (short (held s) p end (sound a)),
-      rw length-set (within (held s) p end (sound a) m is-mark (t .if1 .left)),
-      near-after (held s) p end (sound a) m is-mark (t .if1 .left) (o .moved-on .result) (o .moved-on .ensures),
+      rw length-set (within (held s) p end (sound a) m is-lift (t .if1 .left)),
+      near-after (held s) p end (sound a) m is-lift (t .if1 .left) (o .moved-on .result) (o .moved-on .ensures),
     )
 
 same-length-2 : tie.Need-same-length-2
@@ -108,7 +108,7 @@ returns-3 c =
     let a = w .before in
     let s = a .before .before .before .before .before .before .before in
     nexts-given (s .args .k) (s .args .K) (s .args .l) (s .args .n) (s .fits .k) (s .fits .K)
-    (next-done (held s) (s .args .pattern .now) (a .before .before .end .given .0 .0) (sound a) (w .last-mark .result) (w .last-mark .ensures) (t .if1 .left) (o .moved-on .result) (o .moved-on .ensures) (f .fill .last .1 .0) (f .fill .ensures))
+    (next-done (held s) (s .args .pattern .now) (a .before .before .end .given .0 .0) (sound a) (w .last-lift .result) (w .last-lift .ensures) (t .if1 .left) (o .moved-on .result) (o .moved-on .ensures) (f .fill .last .1 .0) (f .fill .ensures))
 
 pub next-spec : {M : Type 1} → statement M
 next-spec =
@@ -117,7 +117,7 @@ next-spec =
     judge-requires
     enum-known-number
     enum-known-end
-    last-mark-requires
+    last-lift-requires
     same-length
     returns
     sub-pattern

@@ -10,7 +10,7 @@ use Rattle.reply.specs.Numbers.{noEnvelope, longPattern, notABit, outside}
 use Rattle.envelope.specs.declared.Envelope.{Envelope}
 use Rattle.envelope.specs.Limits.{lMost}
 use Rattle.envelope.specs.Inner.Tests.{isTaken}
-use Rattle.pattern.specs.declared.Mark.{Mark}
+use Rattle.pattern.specs.declared.Lift.{Lift}
 use Rattle.pattern.specs.declared.Judged.{Judged}
 use Rattle.pattern.specs.declared.Judged.the-variants.{Sound, Unsound}
 use Rattle.pattern.specs.Pattern.{longest, plain}
@@ -39,8 +39,8 @@ stepOf e zero = pos (e .n)
 stepOf e (suc b) = pos (e .n) -ℤ pos (e .l)
 
 -- the offset after the bit b
-abbrev pub onward : Envelope → ℤ → ℕ → ℤ
-onward e d b = d +ℤ stepOf e b
+abbrev pub offsetAfter : Envelope → ℤ → ℕ → ℤ
+offsetAfter e d b = d +ℤ stepOf e b
 
 -- the smaller bit that may follow, where one may
 abbrev pub leastAt : Envelope → ℤ → ℕ
@@ -49,17 +49,17 @@ leastAt e d = cond (zeroAt e d) 0 1
 -- m bits, each the smaller that may follow
 abbrev pub filled : Envelope → ℤ → ℕ → List ℕ
 filled e d zero = []
-filled e d (suc m) = leastAt e d ∷ filled e (onward e d (leastAt e d)) m
+filled e d (suc m) = leastAt e d ∷ filled e (offsetAfter e d (leastAt e d)) m
 
 -- the offset past some bits, where d is that before them
 abbrev pub reached : Envelope → ℤ → List ℕ → ℤ
 reached e d [] = d
-reached e d (b ∷ p) = reached e (onward e d b) p
+reached e d (b ∷ p) = reached e (offsetAfter e d b) p
 
 -- from place i on: the first forbidden step, or the offset past the end
 abbrev pub scanned : Envelope → ℕ → ℤ → List ℕ → Judged
 scanned e i d [] = Sound d
-scanned e i d (b ∷ p) = cond (mayAt e d b) (scanned e (suc i) (onward e d b) p) (Unsound outside i)
+scanned e i d (b ∷ p) = cond (mayAt e d b) (scanned e (suc i) (offsetAfter e d b) p) (Unsound outside i)
 
 -- how many 0s some bits begin with
 abbrev pub leadingOf : List ℕ → ℕ
@@ -72,20 +72,20 @@ abbrev pub floorOf : Envelope → ℤ
 floorOf e = e .k +ℤ stepOf e 1
 
 -- the last 0 that could be a 1: its place, plus one, and the offset there; with the bit b at i
-abbrev pub marked : Envelope → ℕ → ℤ → Mark → ℕ → Mark
-marked e i d m zero = cond (oneAt e d) (record { place = suc i; offset = d }) m
-marked e i d m (suc b) = m
+abbrev pub lifted : Envelope → ℕ → ℤ → Lift → ℕ → Lift
+lifted e i d m zero = cond (oneAt e d) (record { place = suc i; offset = d }) m
+lifted e i d m (suc b) = m
 
-abbrev pub unmarked : Mark
-unmarked = record { place = 0; offset = pos 0 }
+abbrev pub noLift : Lift
+noLift = record { place = 0; offset = pos 0 }
 
--- the mark past some bits, where m is that at place i
-abbrev pub lastMark : Envelope → ℕ → ℤ → Mark → List ℕ → Mark
-lastMark e i d m [] = m
-lastMark e i d m (b ∷ p) = lastMark e (suc i) (onward e d b) (marked e i d m b) p
+-- the lift past some bits, where m is that at place i
+abbrev pub lastLift : Envelope → ℕ → ℤ → Lift → List ℕ → Lift
+lastLift e i d m [] = m
+lastLift e i d m (b ∷ p) = lastLift e (suc i) (offsetAfter e d b) (lifted e i d m b) p
 
-abbrev pub markOf : Envelope → List ℕ → Mark
-markOf e p = lastMark e 0 (pos 0) unmarked p
+abbrev pub liftOf : Envelope → List ℕ → Lift
+liftOf e p = lastLift e 0 (pos 0) noLift p
 
 -- the largest of m and of some bytes
 abbrev pub largestFrom : ℕ → List ℕ → ℕ

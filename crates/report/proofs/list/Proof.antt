@@ -11,8 +11,8 @@ use Rattle.expression.specs.Inner.Nodes.{perNode}
 use Rattle.sheet.specs.Sheet.{clocksMost, linksMost}
 use Rattle.sheet.specs.Reader.{readSheet}
 use Rattle.sheet.specs.SheetRead.{SheetRead}
-use Rattle.sheet.specs.Inner.Sections.{foundOf}
-use Rattle.sheet.proofs.Tables.Outcome.{reading-refused, reading-got, clocks-few, links-few, ready}
+use Rattle.reading.specs.Inner.Sections.{foundOf}
+use Rattle.sizing.proofs.Outcome.{reading-refused, reading-got, clocks-few, links-few, ready}
 use Rattle.report.proofs.Texts.{listed-refused, listed-good}
 use borrow.Author.Needs.{needs}
 use Rattle.report.proofs.list.Statement.{statement}

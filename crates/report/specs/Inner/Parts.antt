@@ -5,16 +5,17 @@ use Prim.Native.Nat.{ℕ, _*_, _≤_}
 use lib.IntN.{ℤ}
 use lib.ListN.{length}
 use Rattle.link.specs.declared.Row.{Row}
-use Rattle.expression.specs.Inner.Nodes.{perNode, nodesIn, Holds}
+use Rattle.expression.specs.Inner.Nodes.{perNode, nodesIn, HoldsNodes}
 use Rattle.sheet.specs.Sheet.{clocksMost}
-use Rattle.sheet.specs.Inner.Sections.{linksOf, rowsIn, roomsOver}
+use Rattle.reading.specs.Inner.Sections.{linksOf}
+use Rattle.sizing.specs.Inner.Rows.{rowsIn, roomsOver}
 use Rattle.line.specs.Text.{Put}
 use Rattle.report.specs.declared.Summed.{Summed}
 use Rattle.report.specs.Listing.{linkLines, wholeText}
 
 -- a node and a state for each clock
 pub record Many (t : List ℤ) (ss : List ℕ) : Type 0 where
-  pub table : Holds t
+  pub table : HoldsNodes t
   pub many : length t ≡ perNode * length ss
   pub few : length ss ≤ clocksMost
 

@@ -1,0 +1,5 @@
+pub mod Table
+pub mod LinkRows
+pub mod Written
+pub mod Outcome
+pub mod Served

@@ -1,0 +1,6 @@
+pub mod Rooms
+pub mod Table
+pub mod WorkOut
+pub mod Promise
+pub mod Figures
+pub mod Inner
