@@ -59,7 +59,7 @@ enum {
 
     /* 12 to 15 are faults of a pattern's envelope and of the pattern, in this order. */
 
-    /* Four numbers that are no taken, normal envelope. Place 0. */
+    /* Four numbers that are no taken, normal envelope; at l = n = 1, k below 0 is none. Place 0. */
     TXORI_NO_ENVELOPE = 12,
     /* A pattern longer than TXORI_PATTERN_MOST. Place 0. */
     TXORI_LONG_PATTERN = 13,

@@ -33,7 +33,9 @@ pub struct Envelope {
 }
 
 impl Envelope {
+    /// No stream of rate one starts before position 0, so a lower edge below 0 is raised there.
     pub fn new(low: i64, high: i64, l: i64, n: i64) -> Envelope {
+        let low = if l == 1 && n == 1 { low.max(0) } else { low };
         let (low, high, l, n) = (low as i32, high as i32, l as i32, n as i32);
         Envelope { low, high, l, n }
     }

@@ -289,12 +289,21 @@ impl<'r> Maker<'r> {
         } else {
             0
         };
-        let part = rng.range(5000, EDGE_MAX);
+        let part = rng.range(5000, EDGE_MAX - 1);
         let rest = EDGE_MAX - part + extra;
         let swap = rng.chance(50);
         let (a, b) = match rng.below(6) {
             0 => ([0, part, 1, 1], Some([0, rest, 1, 1])),
-            1 => ([-part, 0, 1, 1], Some([-rest, 9, 1, 1])),
+            1 => {
+                // k1 + 2*k2; at rate one no k is below 0
+                let first = [-part - rest % 2, 0, 2, 1];
+                let second = [-(rest / 2), 9, 2, 1];
+                if swap {
+                    (second, Some(first))
+                } else {
+                    (first, Some(second))
+                }
+            }
             2 => ([part, part, 1, 1], Some([rest, rest, 1, 1])),
             3 => {
                 // l at 1,000,000 or beyond, also after a division

@@ -35,7 +35,9 @@ impl Four {
             return refuse(12, 0);
         }
         let (l, n) = (l as i64, n as i64);
-        if gcd(l, n) != 1 || high - low < n - 1 {
+        // the 1 with j 1s before it stands at j or later
+        let too_low = l == 1 && low < 0;
+        if gcd(l, n) != 1 || high - low < n - 1 || too_low {
             return refuse(12, 0);
         }
         Ok(Taken { low, high, l, n })

@@ -85,6 +85,9 @@ fn declareds() {
     assert_eq!(declared([0, 1, 5, 3]), None);
     assert_eq!(declared([0, 0, 2, 2]), Some([0, 0, 1, 1]));
     assert_eq!(declared([1, 9, 10, 6]), Some([1, 4, 5, 3]));
+    assert_eq!(declared([-2, 0, 1, 1]), Some([0, 0, 1, 1]));
+    assert_eq!(declared([-5, 3, 2, 2]), Some([0, 1, 1, 1]));
+    assert_eq!(declared([-2, 0, 2, 1]), Some([-2, 0, 2, 1]));
 }
 
 #[test]
@@ -95,6 +98,24 @@ fn links() {
     assert_eq!(Verdict::judge(producer, consumer), Verdict::Early);
     let other = Envelope::new(0, 3, 5, 2);
     assert_eq!(Verdict::judge(producer, other), Verdict::Rates);
+}
+
+#[test]
+fn rate_one() {
+    let early = Envelope::declared(-2, 0, 1, 1).unwrap();
+    let plain = Envelope::new(0, 0, 1, 1);
+    assert_eq!(Verdict::judge(plain, early), Verdict::Accepted(0));
+    let later = Envelope::new(3, 3, 1, 1);
+    assert_eq!(Verdict::judge(early, later), Verdict::Accepted(3));
+    let four = Four {
+        low: -2,
+        high: 0,
+        l: 1,
+        n: 1,
+    };
+    assert_eq!(check(&four, &[1]), refused(12, 0));
+    assert_eq!(first(&four, &mut [0]), refused(12, 0));
+    assert_eq!(next(&four, &mut [1]), refused(12, 0));
 }
 
 #[test]
@@ -177,8 +198,8 @@ fn a_refused_sheet_has_no_listing() {
 #[test]
 fn the_longest_listing_fits() {
     let mut fours = vec![[-1_000_000_000, 1_000_000_000, 1_000_000, 999_999]; 126];
-    fours.push([-1_000_000_000, 1_000_000_000, 1, 1]);
-    fours.push([1_000_000_000, 1_000_000_000, 1, 1]);
+    fours.push([-1_000_000_000, 1_000_000_000, 2, 1]);
+    fours.push([1_000_000_000, 1_000_000_000, 2, 1]);
     let sheet = Model {
         words: Vec::new(),
         clocks: fours
@@ -191,7 +212,7 @@ fn the_longest_listing_fits() {
     let mut lent = vec![9; LISTING_MAX];
     assert_eq!(list(&bytes, &mut lent[..18_080]), refused(11, 0));
     assert_eq!(list(&bytes, &mut lent), Ok(18_081));
-    assert!(lent[..18_081].ends_with(b"accepted 2000000000\nroom 0 512000000000\n"));
+    assert!(lent[..18_081].ends_with(b"accepted 1000000000\nroom 0 256000000000\n"));
     assert!(lent[18_081..].iter().all(|&byte| byte == 9));
 }
 

@@ -101,9 +101,14 @@ fn room(four: &Numbers) -> bool {
     four[1] - four[0] >= four[3] - 1
 }
 
+/// At l = n = 1 the lower edge is not below 0.
+fn started(four: &Numbers) -> bool {
+    four[2..] != [1, 1] || four[0] >= 0
+}
+
 fn taken(lows: i64, highs: i64, rates: i64) -> Vec<Numbers> {
     let mut found = all(lows, highs, rates);
-    found.retain(|four| normal(four) && room(four));
+    found.retain(|four| normal(four) && room(four) && started(four));
     found
 }
 
@@ -119,7 +124,8 @@ fn rooms(count: &mut Count) {
 }
 
 fn normals(count: &mut Count) {
-    for four in all(8, 10, 9).into_iter().filter(|four| !normal(four)) {
+    let changed = |four: &Numbers| !normal(four) || !started(four);
+    for four in all(8, 10, 9).into_iter().filter(changed) {
         let [low, high, l, n] = four;
         let made = Envelope::declared(low, high, l, n);
         for length in 0..=10 {
@@ -128,7 +134,9 @@ fn normals(count: &mut Count) {
                 Some(made) => raw == beginnings(made.four(), length),
                 None => !raw.contains(&true),
             };
-            count.claim(same, || format!("{four:?} made normal, length {length}"));
+            count.claim(same, || {
+                format!("{four:?} made normal and raised, length {length}")
+            });
         }
     }
 }
@@ -461,7 +469,7 @@ pub fn run() -> bool {
             "room: K - k >= n - 1 just where some stream lies inside",
             rooms,
         ),
-        ("made normal: the same streams", normals),
+        ("made normal and raised: the same streams", normals),
         (
             "patterns: check, first and next against the beginnings",
             patterns,

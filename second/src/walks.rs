@@ -101,6 +101,9 @@ fn taken(rng: &mut Rng) -> Four {
     if rng.chance(2) {
         (low, high) = (-EDGE_MAX, EDGE_MAX);
     }
+    if l == 1 {
+        low = low.max(0);
+    }
     Four {
         low,
         high,
@@ -112,7 +115,7 @@ fn taken(rng: &mut Rng) -> Four {
 /// Turns a taken envelope into four numbers that are none.
 fn spoil(rng: &mut Rng, four: &mut Four) -> &'static str {
     let some = rng.next();
-    match rng.below(9) {
+    match rng.below(10) {
         0 => {
             let most = RATE_MAX as u64 / four.l;
             if most < 2 {
@@ -161,6 +164,11 @@ fn spoil(rng: &mut Rng, four: &mut Four) -> &'static str {
         7 => {
             four.n = 0;
             "n of 0"
+        }
+        8 => {
+            (four.l, four.n) = (1, 1);
+            four.low = rng.pick(&[-1, -2, -99, -EDGE_MAX]);
+            "k below 0 at rate one"
         }
         _ => {
             let wrapped = (1 << 32) + four.n;

@@ -15,6 +15,7 @@ use Rattle.field.proofs.Read.{refused-got}
 use Rattle.pattern.specs.declared.Answer.{Answer}
 use Rattle.pattern.specs.declared.Answer.the-variants.{Refused}
 use Rattle.pattern.specs.Answer.{written, checkAnswer, firstAnswer, firstBytes, nextAnswer, nextBytes}
+use Rattle.envelope.proofs.Theory.{holds}
 use Rattle.link.proofs.Links.{links}
 use Rattle.pattern.proofs.Promises.{patterns}
 use Rattle.sizing.specs.declared.Reply.{Reply}
@@ -154,6 +155,7 @@ pub demand-2 : Demand2
 demand-2 =
     record {
       taken = λ s bytes o p i x e. served s bytes .taken o (length s) (read s o p) i x e;
+      raised = holds .result;
       stands-inside = λ s bytes o p i x e a. meant s bytes o (length s) (read s o p) .clock-sound i x a e;
       some-stream = λ s bytes o p. meant s bytes o (length s) (read s o p) .clock-some;
       verdicts = λ o l x y p q. rw (p, q);

@@ -24,8 +24,8 @@ use lib.ListN.{length, drop, getD, getElem?}
 use Rattle.field.specs.Spelling.{AllBytes}
 use Rattle.envelope.specs.declared.Envelope.{Envelope}
 use Rattle.envelope.specs.declared.Node.{Node}
-use Rattle.envelope.specs.Envelope.{Taken}
-use Rattle.envelope.specs.Stream.{Stream, Lies}
+use Rattle.envelope.specs.Envelope.{Taken, resultOf}
+use Rattle.envelope.specs.Stream.{Stream, Within, Lies}
 use Rattle.link.specs.declared.Verdict.the-variants.{Accepted}
 use Rattle.link.specs.Link.{sizeOf, verdictOf}
 use Rattle.link.specs.Promise.{Serves}
@@ -114,6 +114,8 @@ pub record Demand1 : Type 0 where
 pub record Demand2 : Type 0 where
   -- "Envelopes": those of the table of a sheet that passes, which the rules give clock by clock as its bytes are gone through. Each is taken
   pub taken : (s : List ℕ) → AllBytes s → (o : SheetRead) → Passed s o → (i : ℕ) (x : Node) → getElem? (o .table) i ≡ some x → Taken (x .envelope)
+  -- document 02, item 3: "k becomes 0 before use" where "l = n = 1 and k below 0". "A stream can't start before position 0", so none is lost or gained
+  pub raised : (k K : ℤ) (l n : ℕ) (a : Stream) → Within (a .bit) k K l n ↔ Lies a (resultOf k K l n)
   -- what a clock can stand for lies in its envelope, and there is some stream that it can stand for
   pub stands-inside : (s : List ℕ) → AllBytes s → (o : SheetRead) → Passed s o → (i : ℕ) (x : Node) → getElem? (o .table) i ≡ some x
       → (a : Stream) → Stands (o .sheet .words) (o .sheet .clocks) (Expr.clock i) a → Lies a (x .envelope)

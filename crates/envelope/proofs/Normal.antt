@@ -14,7 +14,7 @@ use Rattle.whole.proofs.Rounding.{ceil-low, ceil-high, floor-low, floor-high, n
 use Rattle.whole.proofs.Euclid.{gcd-is, gcd-pos, gcd-coprime}
 use Rattle.envelope.specs.Stream.{Within, Keeps}
 use Rattle.envelope.specs.Envelope.{Normal, normalOf}
-use Rattle.envelope.proofs.Result.{result-l, result-n, result-keeps, keeps-result}
+use Rattle.envelope.proofs.Result.{result-l, result-n, result-keeps, keeps-result, result-rate-one}
 
 shuffle : (x y j g : ℕ) → x * g ≡ y → x * j * g ≡ y * j
 shuffle x y j g e = mul-right-comm x j g ∙ ap (λ (i : ℕ). i * j) e
@@ -97,3 +97,7 @@ module _ (k K : ℤ) (l n : ℕ) (h : 0 < n) where
   normal-n-most m =
       let q : n / gcdOf l n * gcdOf l n ≤ l / gcdOf l n * gcdOf l n = omega (arith, el, en) in
       omega (arith, normal-l-is, normal-n-is, le-of-mul-le-mul-right q (gcd-pos l n h))
+
+pub normal-rate-one : (k K : ℤ) (l n : ℕ) → normalOf k K l n .l ≡ 1 → normalOf k K l n .n ≡ 1 → pos 0 ≤ℤ normalOf k K l n .k
+unfolding normalOf
+normal-rate-one k K l n = result-rate-one _ _ _ _

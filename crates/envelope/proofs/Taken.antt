@@ -22,8 +22,8 @@ use Rattle.envelope.specs.Word.{onesIn, wordBit, smallest, largest, word
 use Rattle.envelope.specs.Made.{Fields}
 use Rattle.envelope.proofs.Counts.{ones-most, ones-slow, earlier}
 use Rattle.envelope.proofs.Streams.{has-lies}
-use Rattle.envelope.proofs.Result.{result-l, result-n, result-limits}
-use Rattle.envelope.proofs.Normal.{normal-normal, normal-n-least, normal-n-most}
+use Rattle.envelope.proofs.Result.{result-l, result-n, result-limits, result-rate-one}
+use Rattle.envelope.proofs.Normal.{normal-normal, normal-n-least, normal-n-most, normal-rate-one}
 use Rattle.envelope.proofs.Declared.{normal-limits}
 use Rattle.envelope.proofs.On.{onStream, on-keeps}
 use Rattle.envelope.proofs.Not.{notStream, not-keeps}
@@ -61,6 +61,7 @@ declared-taken k K l n f r =
       n-most = normal-n-most k K l n (f .n-least) (f .n-most);
       limits = normal-limits k K l n f;
       room = r;
+      rate-one = normal-rate-one k K l n;
     }
 
 -- ---- not
@@ -81,6 +82,10 @@ module _ (e : Envelope) (t : Taken e) (h : e .n < e .l) where
       let q : g ∣ e .n = subst (λ (x : ℕ). g ∣ x) d (dvd-sub g (s .left) (s .right)) in
       ap₂ gcdOf not-l not-n ∙ dvd-one .0 (subst (λ (x : ℕ). g ∣ x) (t .normal) (gcd-is (e .l) (e .n) .most g (s .left) q))
 
+  not-rate-one : notOf e .l ≡ 1 → notOf e .n ≡ 1 → pos 0 ≤ℤ notOf e .k
+  unfolding notOf
+  not-rate-one = result-rate-one _ _ _ _
+
   pub not-taken : Limits (notOf e) → Taken (notOf e)
   not-taken m =
       let a = taken-stream e t in
@@ -92,6 +97,7 @@ module _ (e : Envelope) (t : Taken e) (h : e .n < e .l) where
         n-most = omega (arith, not-n, not-l);
         limits = m;
         room = has-room (b .0) (notOf e) least not-normal (has-lies (b .0) _ (notOf e) (b .1) (not-keeps (a .0) e h (a .1)));
+        rate-one = not-rate-one;
       }
 
 -- ---- on
@@ -113,6 +119,7 @@ module _ (e f : Envelope) (s : Taken e) (t : Taken f) where
         n-most = normal-n-most _ _ _ _ some-ones (mul-le-mul (s .n-most) (t .n-most));
         limits = m;
         room = has-room (c .0) (onOf e f) least norm (has-lies (c .0) _ (onOf e f) (c .1) (on-keeps (a .0 .bit) (b .0 .bit) e f some-ones (a .1) (b .1)));
+        rate-one = normal-rate-one _ _ _ _;
       }
 
 -- ---- words
@@ -225,6 +232,10 @@ module _ (u v : List ℕ) (h : LegalWord u v) where
   unfolding P m g l n
   word-normal = ap₂ gcdOf word-l word-n ∙ gcd-coprime P m (h .a-one)
 
+  word-rate-one : wordOf u v .l ≡ 1 → wordOf u v .n ≡ 1 → pos 0 ≤ℤ wordOf u v .k
+  unfolding wordOf
+  word-rate-one = result-rate-one _ _ _ _
+
   pub word-taken : Taken (wordOf u v)
   word-taken =
       let s = wordStream u v (h .a-one) in
@@ -235,4 +246,5 @@ module _ (u v : List ℕ) (h : LegalWord u v) where
         n-most = omega (arith, word-n, word-l, n-most);
         limits = word-limits;
         room = has-room (s .0) (wordOf u v) least word-normal (has-lies (s .0) _ (wordOf u v) (s .1) (word-keeps u v (h .a-one)));
+        rate-one = word-rate-one;
       }

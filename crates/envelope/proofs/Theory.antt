@@ -6,6 +6,7 @@ use Rattle.envelope.specs.Envelope.{notOf, onOf}
 use Rattle.envelope.specs.Word.{wordOf}
 use Rattle.envelope.proofs.Streams.{position, position-only, has-lies}
 use Rattle.envelope.proofs.Some.{none-lies}
+use Rattle.envelope.proofs.Result.{result-keeps, keeps-result}
 use Rattle.envelope.proofs.Normal.{normal-keeps, keeps-normal}
 use Rattle.envelope.proofs.Not.{notStream, not-keeps}
 use Rattle.envelope.proofs.On.{onStream, on-keeps}
@@ -22,6 +23,7 @@ inhabited = record { some = taken-stream; none = λ e h m r s p. none-lies s e h
 pub holds : Holds
 holds =
     record {
+      result = λ k K l n s. (result-keeps k K l n (s .bit), keeps-result k K l n (s .bit));
       declared = λ k K l n h s. (normal-keeps k K l n h (s .bit), keeps-normal k K l n h (s .bit));
       not = λ e h a s p b. has-lies s _ (notOf e) b (not-keeps a e h p);
       not-stream = λ e h a p. notStream a e h p;

@@ -1,10 +1,10 @@
 -- Envelopes and the rules of document 01 that make them. `Envelope` is the code's own struct: k and K are whole numbers, l and n naturals.
 use mathlib.Core.Path.{_≡_}
-use mathlib.Core.Bool.{Bool, _&&_}
+use mathlib.Core.Bool.{Bool, _&&_, cond}
 use Prim.Native.Nat.{ℕ, _-_, _*_, _/_, _≤_}
 use lib.IntN.{ℤ, pos, _+ℤ_, _-ℤ_, _*ℤ_}
-use lib.Signed.{_≤ℤ_, leZ}
-use lib.Dec.{leb}
+use lib.Signed.{_≤ℤ_, leZ, ltZ}
+use lib.Dec.{leb, eqb}
 use Rattle.whole.specs.Rounding.{floorDiv, ceilDiv}
 use Rattle.whole.specs.Order.{larger}
 use Rattle.whole.specs.Euclid.{gcdOf}
@@ -40,17 +40,22 @@ Room e = pos (e .n - 1) ≤ℤ (e .K -ℤ e .k)
 unfoldable pub hasRoom : Envelope → Bool
 hasRoom e = leZ (pos (e .n - 1)) (e .K -ℤ e .k)
 
--- "A taken envelope also has 1 <= n <= l .." and "K - k >= n - 1"
+-- "A taken envelope also has 1 <= n <= l .." and "K - k >= n - 1"; where l = n = 1 "a taken envelope has k >= 0"
 pub record Taken (e : Envelope) : Type 0 where
   pub normal : Normal e
   pub n-least : 1 ≤ e .n
   pub n-most : e .n ≤ e .l
   pub limits : Limits e
   pub room : Room e
+  pub rate-one : e .l ≡ 1 → e .n ≡ 1 → pos 0 ≤ℤ e .k
 
--- what each rule below gives its four numbers to: the result of every node passes here
+-- "A stream can't start before position 0": whether "l = n = 1 and k below 0"
+unfoldable pub beforeStart : ℤ → ℕ → ℕ → Bool
+beforeStart k l n = eqb l 1 && eqb n 1 && ltZ k (pos 0)
+
+-- what each rule below gives its four numbers to: "Whenever a node's result has l = n = 1 and k below 0, k becomes 0 before use."
 unfoldable pub resultOf : ℤ → ℤ → ℕ → ℕ → Envelope
-resultOf k K l n = numbers k K l n
+resultOf k K l n = cond (beforeStart k l n) (numbers (pos 0) K l n) (numbers k K l n)
 
 -- "Declared: with g the greatest common divisor of l and n, divide both by g, k becomes k/g rounded up, K becomes K/g rounded down."
 unfoldable pub normalOf : ℤ → ℤ → ℕ → ℕ → Envelope

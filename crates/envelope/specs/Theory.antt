@@ -7,7 +7,7 @@ use Prim.Native.Nat.{ℕ, _≤_, _<_}
 use lib.IntN.{ℤ}
 use Rattle.envelope.specs.declared.Envelope.{Envelope}
 use Rattle.envelope.specs.Stream.{Stream, Position, Within, Lies, Has, notBits, onBits}
-use Rattle.envelope.specs.Envelope.{Normal, Limits, Room, Taken, normalOf, notOf, onOf}
+use Rattle.envelope.specs.Envelope.{Normal, Limits, Room, Taken, resultOf, normalOf, notOf, onOf}
 use Rattle.envelope.specs.Word.{onesIn, wordBit, wordOf, LegalWord}
 use Rattle.envelope.specs.Made.{Fields}
 use Rattle.envelope.specs.Inner.Tests.{isTaken}
@@ -24,6 +24,8 @@ pub record Inhabited : Type 0 where
 
 -- what each rule gives holds every stream that it stands for; and what it stands for is a stream
 pub record Holds : Type 0 where
+  -- every result, raised or not: no stream is lost or gained
+  pub result : (k K : ℤ) (l n : ℕ) (s : Stream) → Within (s .bit) k K l n ↔ Lies s (resultOf k K l n)
   -- declared: made normal without losing or gaining a stream
   pub declared : (k K : ℤ) (l n : ℕ) → 1 ≤ n → (s : Stream) → Within (s .bit) k K l n ↔ Lies s (normalOf k K l n)
   pub not : (e : Envelope) → e .n < e .l → (a s : Stream) → Lies a e → Has s (notBits (a .bit)) → Lies s (notOf e)

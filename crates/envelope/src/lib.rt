@@ -5,7 +5,7 @@ ghost use lib.IntN.{pos, _+ℤ_, _-ℤ_, _*ℤ_};
 ghost use lib.Signed.{_≤ℤ_};
 ghost use lib.ListN.{length, take, drop};
 ghost use Rattle.envelope.specs.Limits.{lMost, lowerLeast, lowerMost};
-ghost use Rattle.envelope.specs.Envelope.{Limits, withinLimits, hasRoom, Taken, resultOf, normalOf, notOf, onOf};
+ghost use Rattle.envelope.specs.Envelope.{Limits, withinLimits, hasRoom, Taken, beforeStart, resultOf, normalOf, notOf, onOf};
 ghost use Rattle.envelope.specs.Word.{bitAt, onesIn, wordOf};
 ghost use Rattle.envelope.specs.Made.{Fields, declaredOf, limited, negatedOf, onWithinLimits};
 ghost use Rattle.envelope.specs.Inner.Span.{includingOf, spanOf};
@@ -42,10 +42,20 @@ impl Envelope {
 
     pub const UPPER_MOST: i64 = 1_000_000_000;
 
+    // Whether a lower edge of rate one lies before position 0, where no stream starts.
+    fn before_start(k: i64, l: u64, n: u64) -> bool
+        ensures { λ r. ⌜ r ≡ beforeStart k l n ⌝ }
+    {
+        l == 1 && n == 1 && k < 0
+    }
+
     // The one place through which every node's result goes.
     fn result(k: i64, K: i64, l: u64, n: u64) -> Envelope
         ensures { λ r. ⌜ r ≡ resultOf k K l n ⌝ }
     {
+        if Envelope::before_start(k, l, n) {
+            return Envelope { k: 0, K, l, n };
+        }
         Envelope { k, K, l, n }
     }
 
@@ -116,6 +126,7 @@ impl Envelope {
             && self.n <= self.l
             && self.has_room()
             && whole::gcd(self.l, self.n) == 1
+            && !Envelope::before_start(self.k, self.l, self.n)
     }
 
     // A declared node of four fields within their limits.

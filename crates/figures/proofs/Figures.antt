@@ -4,7 +4,7 @@ use mathlib.Core.Path.{_≡_, refl}
 use Rattle.whole.specs.Euclid.{euclid, gcdOf}
 use Rattle.field.specs.Field.{lowFirst, fieldAt, fieldIn, signed, signedAt, signedIn}
 use Rattle.envelope.specs.Stream.{ones}
-use Rattle.envelope.specs.Envelope.{withinLimits, hasRoom, resultOf, normalOf, notOf, onOf}
+use Rattle.envelope.specs.Envelope.{withinLimits, hasRoom, beforeStart, resultOf, normalOf, notOf, onOf}
 use Rattle.envelope.specs.Word.{onesIn, wordBit, offsets, wordOf}
 use Rattle.envelope.specs.Made.{declaredOf, limited, negatedOf, onWithinLimits}
 use Rattle.envelope.specs.Inner.Tests.{isTaken}
@@ -22,5 +22,5 @@ use Rattle.pattern.specs.Answer.{checkAnswer, firstAnswer, firstBytes, nextAnsw
 use Rattle.figures.specs.Figures.{walkFrom, walkOver, figures, said}
 
 pub as-said : figures ≡ said
-unfolding euclid gcdOf lowFirst fieldAt fieldIn signed signedAt signedIn ones resultOf normalOf notOf onOf onesIn wordBit offsets wordOf withinLimits hasRoom isTaken declaredOf limited negatedOf onWithinLimits sizeOf earlyOf verdictOf fieldsKept declaredWorth run expression parts exprAt rowsAt sectionAt bitsAt wordAt clockAt linkAt linksOn clocksOn readFrom readSheet total openRoom wholeRoom workedOf flatten nots low high oneMay zeroMay checkAnswer firstAnswer firstBytes nextAnswer nextBytes walkFrom walkOver
+unfolding euclid gcdOf lowFirst fieldAt fieldIn signed signedAt signedIn ones beforeStart resultOf normalOf notOf onOf onesIn wordBit offsets wordOf withinLimits hasRoom isTaken declaredOf limited negatedOf onWithinLimits sizeOf earlyOf verdictOf fieldsKept declaredWorth run expression parts exprAt rowsAt sectionAt bitsAt wordAt clockAt linkAt linksOn clocksOn readFrom readSheet total openRoom wholeRoom workedOf flatten nots low high oneMay zeroMay checkAnswer firstAnswer firstBytes nextAnswer nextBytes walkFrom walkOver
 as-said = refl

@@ -1,7 +1,7 @@
 -- "Figures to hold the work to. Starred ones are proved from the definitions, all together by one claim over one list."
 use mathlib.Core.List.{List, [], _∷_, _++_, map}
 use Prim.Native.Nat.{ℕ, zero, suc}
-use lib.IntN.{pos}
+use lib.IntN.{pos, negℤ}
 use lib.ListN.{replicate}
 use Rattle.link.specs.Figures as links
 use Rattle.sizing.specs.Figures as sheets
@@ -9,13 +9,14 @@ use Rattle.envelope.specs.declared.Envelope.{Envelope}
 use Rattle.envelope.specs.Envelope.{numbers}
 use Rattle.pattern.specs.declared.Answer.{Answer}
 use Rattle.pattern.specs.declared.Answer.the-variants.{Inside, Done, Last, Refused}
-use Rattle.pattern.specs.Answer.{firstAnswer, firstBytes, nextAnswer, nextBytes}
+use Rattle.pattern.specs.Answer.{checkAnswer, firstAnswer, firstBytes, nextAnswer, nextBytes}
 
--- an envelope, a node or a verdict; a sheet worked out; the patterns of a walk
+-- an envelope, a node or a verdict; a sheet worked out; the patterns of a walk; what a pattern's entry point answers
 pub data Figure : Type 0 where
   number : links.Figure → Figure
   sheet : sheets.Answer → Figure
   patterns : List (List ℕ) → Figure
+  answer : Answer → Figure
 
 -- what follows an answer: ps where that is "done"
 abbrev pub afterDone : Answer → List (List ℕ) → List (List ℕ)
@@ -37,14 +38,30 @@ walkOver e most p = afterDone (firstAnswer e p) (walkFrom e most (firstBytes e p
 abbrev pub walk2321 : ℕ → ℕ → Figure
 walk2321 most length = patterns (walkOver (numbers (pos 2) (pos 3) 2 1) most (replicate length 7))
 
+-- -2 0 1 1, which no node gives
+abbrev pub oldRateOne : Envelope
+oldRateOne = numbers (negℤ (pos 2)) (pos 0) 1 1
+
 -- what the definitions give
 abbrev pub figures : List Figure
-figures = map number links.given ++ (map sheet sheets.given ++ (walk2321 9 5 ∷ (walk2321 9 2 ∷ [])))
+figures =
+    map number links.given
+    ++ (map sheet sheets.given
+    ++ (walk2321 9 5
+    ∷ walk2321 9 2
+    ∷ answer (checkAnswer oldRateOne (1 ∷ []))
+    ∷ answer (firstAnswer oldRateOne (1 ∷ []))
+    ∷ answer (nextAnswer oldRateOne (1 ∷ []))
+    ∷ []))
 
--- what document 01 says: "2 3 2 1 at length 5: 00010, 00011, 00100, 00101. At length 2: 00."
+-- what document 01 says: "2 3 2 1 at length 5: 00010, 00011, 00100, 00101. At length 2: 00."; and document 02, item 3: "refuse the old numbers with 12"
 abbrev pub said : List Figure
 said =
     map number links.said
     ++ (map sheet sheets.said
     ++ (patterns ((0 ∷ 0 ∷ 0 ∷ 1 ∷ 0 ∷ []) ∷ (0 ∷ 0 ∷ 0 ∷ 1 ∷ 1 ∷ []) ∷ (0 ∷ 0 ∷ 1 ∷ 0 ∷ 0 ∷ []) ∷ (0 ∷ 0 ∷ 1 ∷ 0 ∷ 1 ∷ []) ∷ [])
-    ∷ (patterns ((0 ∷ 0 ∷ []) ∷ []) ∷ [])))
+    ∷ patterns ((0 ∷ 0 ∷ []) ∷ [])
+    ∷ answer (Refused 12 0)
+    ∷ answer (Refused 12 0)
+    ∷ answer (Refused 12 0)
+    ∷ []))

@@ -1,11 +1,11 @@
--- "Figures to hold the work to": those on envelopes and links. What the rules give, and what document 01 says.
+-- "Figures to hold the work to": those on envelopes and links. What the rules give, and what document 01 says, or item 3 of document 02.
 use mathlib.Core.List.{List, [], _∷_}
 use Prim.Native.Nat.{ℕ}
 use lib.IntN.{ℤ, pos, negℤ}
 use Rattle.envelope.specs.declared.Envelope.{Envelope}
 use Rattle.envelope.specs.declared.Made.{Made}
 use Rattle.envelope.specs.declared.Made.the-variants.{Good, Empty, FullRate, Outgrown}
-use Rattle.envelope.specs.Envelope.{numbers, notOf, onOf}
+use Rattle.envelope.specs.Envelope.{numbers, normalOf, notOf, onOf}
 use Rattle.envelope.specs.Word.{wordOf}
 use Rattle.envelope.specs.Made.{numberOf, declaredOf, negatedOf}
 use Rattle.link.specs.declared.Verdict.{Verdict}
@@ -31,6 +31,10 @@ made Outgrown = refused (numberOf Outgrown)
 abbrev pub w11010 : Envelope
 w11010 = wordOf [] (1 ∷ 1 ∷ 0 ∷ 1 ∷ 0 ∷ [])
 
+-- declared -2 0 1 1
+abbrev pub raisedOne : Envelope
+raisedOne = normalOf (negative 2) (pos 0) 1 1
+
 abbrev pub given : List Figure
 given =
     envelope w11010
@@ -45,9 +49,12 @@ given =
     ∷ made (declaredOf (pos 0) (pos 1) 5 3)
     ∷ made (declaredOf (pos 0) (pos 0) 2 2)
     ∷ made (declaredOf (pos 1) (pos 9) 10 6)
+    ∷ made (declaredOf (negative 2) (pos 0) 1 1)
     ∷ made (negatedOf (wordOf (0 ∷ []) (1 ∷ [])))
     ∷ verdict (verdictOf (numbers (pos 0) (pos 2) 5 3) (numbers (pos 0) (pos 2) 5 3))
     ∷ verdict (verdictOf (numbers (pos 0) (pos 3) 5 3) (numbers (pos 0) (pos 2) 5 3))
+    ∷ verdict (verdictOf (numbers (pos 0) (pos 0) 1 1) raisedOne)
+    ∷ verdict (verdictOf raisedOne (numbers (pos 3) (pos 3) 1 1))
     ∷ []
 
 abbrev pub said : List Figure
@@ -64,7 +71,10 @@ said =
     ∷ refused 7
     ∷ envelope (numbers (pos 0) (pos 0) 1 1)
     ∷ envelope (numbers (pos 1) (pos 4) 5 3)
+    ∷ envelope (numbers (pos 0) (pos 0) 1 1)
     ∷ refused 8
     ∷ verdict (Accepted 0)
     ∷ verdict Early
+    ∷ verdict (Accepted 0)
+    ∷ verdict (Accepted 3)
     ∷ []

@@ -3,7 +3,7 @@ use mathlib.Core.Path.{_≡_, refl}
 use Rattle.whole.specs.Euclid.{euclid, gcdOf}
 use Rattle.field.specs.Field.{lowFirst, fieldAt, fieldIn, signed, signedAt, signedIn}
 use Rattle.envelope.specs.Stream.{ones}
-use Rattle.envelope.specs.Envelope.{withinLimits, hasRoom, resultOf, normalOf, notOf}
+use Rattle.envelope.specs.Envelope.{withinLimits, hasRoom, beforeStart, resultOf, normalOf, notOf}
 use Rattle.envelope.specs.Word.{onesIn, wordBit, offsets, wordOf}
 use Rattle.envelope.specs.Made.{declaredOf, limited, negatedOf}
 use Rattle.link.specs.Link.{earlyOf, sizeOf, verdictOf}
@@ -18,5 +18,5 @@ use Rattle.report.specs.Listing.{clockLines, linkLines, wholeText, listi
 use Rattle.report.specs.Figures.{given, said}
 
 pub figures : given ≡ said
-unfolding listingOf wholeText clockLines linkLines lineOf decimal digits lastDigits readSheet readFrom clocksOn linksOn sectionAt rowsAt bitsAt wordAt clockAt linkAt run expression parts exprAt fieldIn fieldAt lowFirst signedIn signedAt signed onesIn wordOf wordBit offsets ones fieldsKept declaredWorth declaredOf negatedOf limited normalOf notOf resultOf withinLimits hasRoom gcdOf euclid verdictOf earlyOf sizeOf total
+unfolding listingOf wholeText clockLines linkLines lineOf decimal digits lastDigits readSheet readFrom clocksOn linksOn sectionAt rowsAt bitsAt wordAt clockAt linkAt run expression parts exprAt fieldIn fieldAt lowFirst signedIn signedAt signed onesIn wordOf wordBit offsets ones fieldsKept declaredWorth declaredOf negatedOf limited normalOf notOf beforeStart resultOf withinLimits hasRoom gcdOf euclid verdictOf earlyOf sizeOf total
 figures = refl

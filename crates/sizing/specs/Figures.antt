@@ -65,6 +65,18 @@ nots (suc n) = 3 ∷ nots n
 abbrev pub declared0153 : List ℕ
 declared0153 = 2 ∷ 0 ∷ 0 ∷ 0 ∷ 0 ∷ 1 ∷ 0 ∷ 0 ∷ 0 ∷ 5 ∷ 0 ∷ 0 ∷ 0 ∷ 3 ∷ 0 ∷ 0 ∷ 0 ∷ []
 
+-- an open clock declared k K 1 1, with the four bytes of k
+abbrev pub openRateOne : List ℕ → ℕ → List ℕ
+openRateOne k K = (0 ∷ 2 ∷ k) ++ (K ∷ 0 ∷ 0 ∷ 0 ∷ 1 ∷ 0 ∷ 0 ∷ 0 ∷ 1 ∷ 0 ∷ 0 ∷ 0 ∷ [])
+
+-- clocks -2 0 1 1, 0 0 1 1 and 3 3 1 1; links from the second to the first, and from the first to the third
+abbrev pub rateOne : List ℕ
+rateOne =
+    (0 ∷ 0 ∷ 3 ∷ 0 ∷ openRateOne (0xfe ∷ 0xff ∷ 0xff ∷ 0xff ∷ []) 0)
+    ++ (openRateOne (0 ∷ 0 ∷ 0 ∷ 0 ∷ []) 0
+    ++ (openRateOne (3 ∷ 0 ∷ 0 ∷ 0 ∷ []) 3
+    ++ (2 ∷ 0 ∷ 1 ∷ 0 ∷ 0 ∷ 0 ∷ 0 ∷ 0 ∷ 2 ∷ 0 ∷ [])))
+
 abbrev pub given : List Answer
 given =
     answerTo document 12 9
@@ -76,6 +88,7 @@ given =
     ∷ answerTo (oneClock w10 declared0153) 4 0
     ∷ answerTo (oneClock w10 (nots 11)) 4 0
     ∷ answerTo (oneClock w10 (nots 12)) 4 0
+    ∷ answerTo rateOne 12 6
     ∷ []
 
 -- "clock 0 open -2 0 5 3", "clock 1 open 5 9 5 3", "clock 2 closed 3 4 5 2"
@@ -89,7 +102,7 @@ documentClocks =
 abbrev pub documentLinks : List ℤ
 documentLinks = pos 0 ∷ pos 2 ∷ pos 0 ∷ pos 2 ∷ pos 0 ∷ pos 0 ∷ pos 1 ∷ pos 0 ∷ pos 1 ∷ []
 
--- "room 2 2"; "elements past those stay as found"; 11; 10; "Period 0: refused 4"; "Not of 0(1): refused 8"; "Declared 0 1 5 3: refused 7"; "Depth 12 taken, 13 refused", by 6. The numbers are document 01's figures, not names that the rules use.
+-- "room 2 2"; "elements past those stay as found"; 11; 10; "Period 0: refused 4"; "Not of 0(1): refused 8"; "Declared 0 1 5 3: refused 7"; "Depth 12 taken, 13 refused", by 6. The numbers are document 01's figures, not names that the rules use. The last are those of document 02, item 3: "3 are enough".
 abbrev pub said : List Answer
 said =
     accepted 3 3 2 2 documentClocks documentLinks
@@ -101,4 +114,7 @@ said =
     ∷ refusedAt 7 9 4 0
     ∷ accepted 1 0 0 0 (pos 1 ∷ pos 1 ∷ pos 2 ∷ pos 1 ∷ []) []
     ∷ refusedAt 6 21 4 0
+    ∷ accepted 3 2 3 3
+    (pos 0 ∷ pos 0 ∷ pos 1 ∷ pos 1 ∷ pos 0 ∷ pos 0 ∷ pos 1 ∷ pos 1 ∷ pos 3 ∷ pos 3 ∷ pos 1 ∷ pos 1 ∷ [])
+    (pos 0 ∷ pos 0 ∷ pos 0 ∷ pos 0 ∷ pos 3 ∷ pos 0 ∷ [])
     ∷ []

@@ -3,13 +3,16 @@
 use borrow.Author.Needs.{needs}
 use mathlib.Core.Path.{_≡_, refl, sym, ap, _∙_}
 use mathlib.Core.Logic.{⊎-elim}
-use mathlib.Core.Bool.{Bool, _&&_}
+use mathlib.Core.Bool.{Bool, _&&_, not}
 use Prim.Native.Nat.{ℕ}
 use native.Mathlib.Omega.{arith}
+use lib.IntN.{ℤ}
 use lib.Dec.{leb, eqb}
 use borrow.Author.Tests.{leb-true}
+use Rattle.whole.specs.Euclid.{gcdOf}
+use Rattle.whole.proofs.Machine.{told}
 use Rattle.envelope.specs.declared.Envelope.{Envelope}
-use Rattle.envelope.specs.Envelope.{withinLimits, hasRoom}
+use Rattle.envelope.specs.Envelope.{withinLimits, hasRoom, beforeStart}
 use Rattle.envelope.specs.Inner.Tests.{isTaken}
 use Rattle.envelope.proofs.Tests.{both-true, passed, stopped, within-limits}
 use Rattle.envelope.proofs.Envelope.is_taken.Statement.{statement}
@@ -30,6 +33,13 @@ with-room c =
     let h = in-ranges (c .before) in
     ⊎-elim (λ w. passed h (w .0 .taken) (w .2 ∙ w .1 .ensures)) (λ w. stopped h _ (w .0 .left) (w .1)) (c .if3 .came)
 
+made-normal : (c : tie.Joined4) → c .if4 .if5
+    ≡ (ranges (c .before .before .before .before .before .args .self) && hasRoom (c .before .before .before .before .before .args .self)
+    && eqb (gcdOf (c .before .before .before .before .before .args .self .l) (c .before .before .before .before .before .args .self .n)) 1)
+made-normal c =
+    let h = with-room (c .before) in
+    ⊎-elim (λ w. passed h (w .0 .taken) (w .2 ∙ ap (λ (g : ℕ). eqb g 1) (w .1 .ensures))) (λ w. stopped h _ (w .0 .left) (w .1)) (c .if4 .came)
+
 within-limits-requires : tie.Need-within-limits-requires
 within-limits-requires c κs = search needs
 
@@ -44,15 +54,20 @@ has-room-requires c κs =
 gcd-requires : tie.Need-gcd-requires
 gcd-requires c κs = search needs
 
+before-start-requires : tie.Need-before-start-requires
+before-start-requires c κs = search needs
+
 returns : tie.Need-returns
 unfolding isTaken
 returns c =
-    passed (with-room (c .before .before)) (c .before .if4 .taken) (ap (λ (g : ℕ). eqb g 1) (c .gcd .ensures))
+    let e : Envelope = c .before .before .before .before .before .before .before .before .args .self in
+    passed (made-normal (c .before .before .before)) (c .before .before .if5 .taken)
+    (ap not (c .before-start .ensures ∙ ap (λ (k : ℤ). beforeStart k (e .l) (e .n)) (told (e .k) (let g = c .before .struct-told .given in omega arith))))
 
 returns-2 : tie.Need-returns-2
 unfolding isTaken
-returns-2 c = stopped (with-room (c .before)) _ (c .if4 .left) refl
+returns-2 c = stopped (made-normal (c .before)) _ (c .if5 .left) refl
 
 pub is-taken-spec : {M : Type 1} → statement M
 is-taken-spec =
-    tie.close (tie.spec within-limits-requires has-room-requires gcd-requires returns returns-2)
+    tie.close (tie.spec within-limits-requires has-room-requires gcd-requires before-start-requires returns returns-2)
