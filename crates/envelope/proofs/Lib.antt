@@ -12,6 +12,5 @@ pub mod Word
 pub mod Taken
 pub mod Tests
 pub mod Makings
-pub mod Spans
 pub mod Held
 pub mod Theory

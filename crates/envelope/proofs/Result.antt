@@ -34,21 +34,21 @@ module _ (k K : ℤ) (l n : ℕ) where
   result-keeps b w =
       by-start (Keeps b)
       (λ h.
-        let s = is-before k l n h in
-        record {
-          low = λ j t p. omega (arith, orders, sum (pos (l * j)) (pos 0), ap (λ (x : ℕ). x * j) (s .0), ap (λ (x : ℕ). x * t) (s .1), p .before, ones-most b t);
-          high = w .high;
-        })
+      let s = is-before k l n h in
+      record {
+        low = λ j t p. omega (arith, orders, sum (pos (l * j)) (pos 0), ap (λ (x : ℕ). x * j) (s .0), ap (λ (x : ℕ). x * t) (s .1), p .before, ones-most b t);
+        high = w .high;
+      })
       (λ h. w)
 
   pub keeps-result : (b : ℕ → Bool) → Keeps b (resultOf k K l n) → Within b k K l n
   keeps-result b =
       by-start (λ e. Keeps b e → Within b k K l n)
       (λ h w.
-        record {
-          low = λ j t p. omega (arith, orders, sum (pos (l * j)) (pos 0), sum (pos (l * j)) k, w .low j t p, is-before k l n h .2);
-          high = w .high;
-        })
+      record {
+        low = λ j t p. omega (arith, orders, sum (pos (l * j)) (pos 0), sum (pos (l * j)) k, w .low j t p, is-before k l n h .2);
+        high = w .high;
+      })
       (λ h w. w)
 
   pub result-limits : Limits (numbers k K l n) → Limits (resultOf k K l n)

@@ -1,14 +1,11 @@
 // Envelopes: their limits, the rules that make them, and what a node of an expression comes to.
 ghost use mathlib.Core.Path.{_≡_};
 ghost use Prim.Native.Nat.{_-_, _*_, _≤_, _<_, _^_};
-ghost use lib.IntN.{pos, _+ℤ_, _-ℤ_, _*ℤ_};
+ghost use lib.IntN.{pos, _+ℤ_, _*ℤ_};
 ghost use lib.Signed.{_≤ℤ_};
-ghost use lib.ListN.{length, take, drop};
 ghost use Rattle.envelope.specs.Limits.{lMost, lowerLeast, lowerMost};
 ghost use Rattle.envelope.specs.Envelope.{Limits, withinLimits, hasRoom, Taken, beforeStart, resultOf, normalOf, notOf, onOf};
-ghost use Rattle.envelope.specs.Word.{bitAt, onesIn, wordOf};
 ghost use Rattle.envelope.specs.Made.{Fields, declaredOf, limited, negatedOf, onWithinLimits};
-ghost use Rattle.envelope.specs.Inner.Span.{includingOf, spanOf};
 ghost use Rattle.envelope.specs.Inner.Tests.{isTaken};
 
 pub struct Envelope {
@@ -50,7 +47,7 @@ impl Envelope {
     }
 
     // The one place through which every node's result goes.
-    fn result(k: i64, K: i64, l: u64, n: u64) -> Envelope
+    pub fn result(k: i64, K: i64, l: u64, n: u64) -> Envelope
         ensures { λ r. ⌜ r ≡ resultOf k K l n ⌝ }
     {
         if Envelope::before_start(k, l, n) {
@@ -166,20 +163,6 @@ impl Envelope {
     {
         self.on(b).limited_to()
     }
-
-    // A word: its first `prefix` bits, then the others for ever, `ones` of which are 1.
-    pub fn word(bits: &[u8], prefix: usize, ones: u64) -> Envelope
-        requires { ⌜ (prefix ≤ length (now bits)) × (length (now bits) ≤ 128) × (length (now bits) - prefix ≤ 64) ⌝ }
-        requires { ⌜ (0 < ones) × (ones ≤ 64) × (onesIn (drop prefix (now bits)) ≡ ones) ⌝ }
-        ensures { λ r. ⌜ r ≡ wordOf (take prefix (now (bits .entry))) (drop prefix (now (bits .entry))) ⌝ }
-    {
-        let period = (bits.len() - prefix) as u64;
-        let g = whole::gcd(period, ones);
-        let l = period / g;
-        let n = ones / g;
-        let s = offset_span(bits, l, n);
-        Envelope::result(s.k, s.K, l, n)
-    }
 }
 
 // x * n + y * l, of numbers within an envelope's limits.
@@ -190,51 +173,4 @@ fn cross(x: i64, n: u64, y: i64, l: u64) -> i64
     ensures { λ r. ⌜ r ≡ x *ℤ pos n +ℤ y *ℤ pos l ⌝ }
 {
     x * (n as i64) + y * (l as i64)
-}
-
-// n * t - l * j, of a word's numbers.
-fn offset(n: u64, t: u64, l: u64, j: u64) -> i64
-    requires { ⌜ (n ≤ 64) × (t ≤ 128) × (l ≤ 64) × (j ≤ 128) ⌝ }
-    ensures { λ r. ⌜ r ≡ pos (n * t) -ℤ pos (l * j) ⌝ }
-{
-    (n * t) as i64 - (l * j) as i64
-}
-
-// The smallest and the largest of some numbers.
-pub struct Span {
-    pub k: i64,
-    pub K: i64,
-}
-
-impl Span {
-    // With one number more, after j others.
-    fn including(self, x: i64, j: u64) -> Span
-        ensures { λ r. ⌜ r ≡ includingOf self x j ⌝ }
-    {
-        if j == 0 {
-            return Span { k: x, K: x };
-        }
-        Span {
-            k: whole::smaller_of(x, self.k),
-            K: whole::larger_of(x, self.K),
-        }
-    }
-}
-
-// The smallest and the largest n*p(j) - l*j of a word's bits.
-fn offset_span(bits: &[u8], l: u64, n: u64) -> Span
-    requires { ⌜ (l ≤ 64) × (n ≤ 64) × (length (now bits) ≤ 128) ⌝ }
-    ensures { λ r. ⌜ r ≡ spanOf (bitAt (now (bits .entry))) l n (length (now (bits .entry))) ⌝ }
-{
-    let mut s = Span { k: 0, K: 0 };
-    let mut t: usize = 0;
-    let mut j: u64 = 0;
-    while t < bits.len() {
-        if bits[t] == 1 {
-            s = s.including(offset(n, t as u64, l, j), j);
-            j += 1;
-        }
-        t += 1;
-    }
-    s
 }

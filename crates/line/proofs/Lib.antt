@@ -2,6 +2,4 @@ pub mod Puts
 pub mod Digits
 pub mod Figures
 pub mod Signs
-pub mod BitLine
-pub mod HexLine
 pub mod Promise

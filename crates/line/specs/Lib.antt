@@ -1,5 +1,3 @@
 pub mod Letters
 pub mod Text
-pub mod BitLine
-pub mod HexLine
 pub mod Promise

@@ -1,11 +1,6 @@
 // Text in a lent buffer: each function puts its bytes from `at` on, and answers the place past them.
-mod bits;
-mod hex;
-
 ghost use mathlib.Core.Path.{_≡_};
 ghost use Rattle.line.specs.Text.{outOf, putOne, putField, putLine, Put, digits, decimal, outcomeFields};
-pub use bits::put_bits;
-pub use hex::put_hex;
 
 pub const BLANK: u8 = 32;
 

@@ -14,19 +14,21 @@ use mir.Syntax.{w64}
 use mir.Val.{SFits, toZ, ofZ}
 use mir.Facts.{toZ-ofZ}
 use borrow.Author.Tests.{lt-ltb, le-ltb}
-use Rattle.reply.specs.Numbers.{noEnvelope, longPattern, notABit}
+use Rattle.reply.specs.Numbers.{noEnvelope, longPattern}
 use Rattle.envelope.specs.declared.Envelope.{Envelope}
 use Rattle.envelope.specs.Envelope.{numbers, Taken}
 use Rattle.envelope.specs.Inner.Tests.{isTaken}
 use Rattle.pattern.specs.declared.Lift.{Lift}
 use Rattle.pattern.specs.declared.Answer.{Answer}
 use Rattle.pattern.specs.declared.Answer.the-variants.{Inside, Done, Last, Refused}
-use Rattle.pattern.specs.declared.Judged.{Judged}
-use Rattle.pattern.specs.declared.Judged.the-variants.{Sound, Unsound}
-use Rattle.pattern.specs.Pattern.{longest, plain}
+use Rattle.judging.specs.declared.Judged.{Judged}
+use Rattle.judging.specs.declared.Judged.the-variants.{Sound, Unsound}
+use Rattle.judging.specs.Bytes.{longest, plain}
 use Rattle.pattern.specs.Answer.{checkAnswer, firstAnswer, firstBytes, nextOf, nextAnswer, nextBytes, Checks, Firsts, Nexts}
-use Rattle.pattern.specs.Inner.Scan.{Near, offsetAfter, filled, reached, liftOf, scanned, judged}
-use Rattle.pattern.proofs.Offsets.{offset-start, filled-is, near-on, near-more, near-held, near-reached}
+use Rattle.judging.specs.Inner.Scan.{Near, offsetAfter, judged}
+use Rattle.pattern.specs.Inner.Lifts.{filled, reached, liftOf}
+use Rattle.judging.proofs.Offsets.{near-on, near-more, near-held}
+use Rattle.pattern.proofs.Offsets.{offset-start, filled-is, near-reached}
 use Rattle.pattern.proofs.Replies.{fromLift, next-lift, Sane, sane, answerOf, judged-check, Passes, sound-is}
 
 -- ---- four numbers, as the machine holds them: what is said of those is said of the numbers
@@ -47,27 +49,6 @@ module _ (k K : ℤ) (l n : ℕ) (f : SFits w64 k) (g : SFits w64 K) where
   nexts-given {p} {q} {r} = subst (λ (e : Envelope). Nexts e p r q) held-given
 
 module _ (e : Envelope) (p : List ℕ) where
-  -- ---- judge
-  module _ (fine : isTaken e ≡ true) where
-    pub judge-long : longest < length p → Unsound longPattern 0 ≡ judged e p
-    unfolding judged
-    judge-long h = rw (fine, lt-ltb longest (length p) h)
-
-    module _ (short : length p ≤ longest) where
-      pub judge-unbit : (b : ℕ) → b ≡ plain p → b < length p → Unsound notABit b ≡ judged e p
-      unfolding judged
-      judge-unbit b q k =
-          let h : plain p < length p = omega arith in
-          rw (fine, le-ltb longest (length p) short, lt-ltb (plain p) (length p) h, q)
-
-      pub judge-scan : (j : Judged) → length p ≤ plain p → j ≡ scanned e 0 (pos 0) p → j ≡ judged e p
-      unfolding judged
-      judge-scan j k q = rw (fine, le-ltb longest (length p) short, le-ltb (plain p) (length p) k) q
-
-  pub judge-none : isTaken e ≡ false → Unsound noEnvelope 0 ≡ judged e p
-  unfolding judged
-  judge-none h = rw h
-
   -- ---- check
   pub check-is : (j : Judged) → j ≡ judged e p → answerOf e j ≡ checkAnswer e p
   check-is j q = ap (answerOf e) q ∙ judged-check e p

@@ -18,7 +18,8 @@ use Rattle.envelope.proofs.Tests.{is-true, to-T, is-taken, taken-is}
 use Rattle.pattern.specs.declared.Answer.{Answer}
 use Rattle.pattern.specs.declared.Answer.the-variants.{Refused}
 use Rattle.pattern.specs.Step.{oneMay, zeroMay}
-use Rattle.pattern.specs.Pattern.{longest, after, may, Inside, passed, plain}
+use Rattle.judging.specs.Bytes.{longest, plain}
+use Rattle.pattern.specs.Pattern.{after, may, Inside, passed}
 use Rattle.pattern.specs.Beginning.{Begins}
 use Rattle.pattern.specs.Answer.{answerNumber, stepsOf, checkAnswer}
 use Rattle.pattern.proofs.Binary.{Bits}

@@ -5,21 +5,14 @@ use native.Mathlib.Nat.{mul-suc, mul-zero, one-mul, mul-le-mul-left, mul-le-mul-
 use native.Mathlib.Omega.{arith}
 use mathlib.Core.Path.{_≡_}
 use mathlib.Core.Bool.{false}
-use lib.IntN.{ℤ, pos, negsuc, _+ℤ_}
-use lib.Signed.{leZ, leZ-yes, _≤ℤ_}
+use lib.IntN.{pos, _+ℤ_}
+use lib.Signed.{leZ-yes, _≤ℤ_}
 use lib.Dec.{T}
-use borrow.Author.Tests.{leb-false}
-use Rattle.whole.proofs.Bridge.{up, down, sum, diff, ≤ℤ-reads, ≤ℤ-shows}
+use Rattle.whole.proofs.Bridge.{up, sum, diff, ≤ℤ-reads, ≤ℤ-shows}
 use Rattle.envelope.specs.declared.Envelope.{Envelope}
 use Rattle.envelope.specs.Envelope.{Taken}
 use Rattle.pattern.specs.Step.{low, high}
-
--- x is not at most y: y is below x
-pub leZ-false : (x y : ℤ) → leZ x y ≡ false → up y + down x < up x + down y
-leZ-false (pos a) (pos b) e = omega (arith, leb-false a b e)
-leZ-false (pos a) (negsuc b) e = omega arith
-leZ-false (negsuc a) (pos b) e = absurd (let w : _≡_ {A = ℕ} 0 1 = cc in omega arith)
-leZ-false (negsuc a) (negsuc b) e = omega (arith, leb-false b a e)
+use Rattle.judging.proofs.Offsets.{leZ-false}
 
 module _ (e : Envelope) where
   pub low-reads : (i j : ℕ) → T (low e i j) → (pos (e .l * j) +ℤ e .k) ≤ℤ pos (e .n * i)

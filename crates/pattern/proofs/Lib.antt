@@ -6,7 +6,6 @@ pub mod Streams
 pub mod Edges
 pub mod Offsets
 pub mod Loops
-pub mod Sweeps
 pub mod Replies
 pub mod Answers
 pub mod Beginnings

@@ -12,7 +12,8 @@ use Rattle.envelope.specs.declared.Envelope.{Envelope}
 use Rattle.envelope.specs.Envelope.{Taken}
 use Rattle.envelope.proofs.Tests.{taken-is}
 use Rattle.pattern.specs.Step.{oneMay, zeroMay}
-use Rattle.pattern.specs.Pattern.{longest, Inside, fill, number}
+use Rattle.judging.specs.Bytes.{longest}
+use Rattle.pattern.specs.Pattern.{Inside, fill, number}
 use Rattle.pattern.specs.Answer.{firstAnswer, firstBytes, nextOf}
 use Rattle.pattern.specs.Walk.{Steps, Walks, Patterns}
 use Rattle.pattern.proofs.Lists.{Follows}

@@ -21,14 +21,17 @@ use Rattle.envelope.proofs.Tests.{is-taken}
 use Rattle.pattern.specs.declared.Lift.{Lift}
 use Rattle.pattern.specs.declared.Answer.{Answer}
 use Rattle.pattern.specs.declared.Answer.the-variants.{Inside, Refused}
-use Rattle.pattern.specs.declared.Judged.{Judged}
-use Rattle.pattern.specs.declared.Judged.the-variants.{Sound, Unsound}
+use Rattle.judging.specs.declared.Judged.{Judged}
+use Rattle.judging.specs.declared.Judged.the-variants.{Sound, Unsound}
 use Rattle.pattern.specs.Step.{oneMay, zeroMay}
-use Rattle.pattern.specs.Pattern.{longest, after, may, passed, next, raised, plain}
+use Rattle.judging.specs.Bytes.{longest, plain}
+use Rattle.pattern.specs.Pattern.{after, may, passed, next, raised}
 use Rattle.pattern.specs.Answer.{stepsOf, nextOf, checkAnswer}
-use Rattle.pattern.specs.Inner.Scan.{Near, oneAt, offsetAfter, filled, reached, lifted, noLift, lastLift, liftOf, scanned, judged}
+use Rattle.judging.specs.Inner.Scan.{Near, oneAt, offsetAfter, scanned, judged}
+use Rattle.pattern.specs.Inner.Lifts.{filled, reached, lifted, noLift, lastLift, liftOf}
 use Rattle.pattern.proofs.Binary.{Bits}
-use Rattle.pattern.proofs.Offsets.{offsetOf, offset-start, onward-is, one-is, may-is, filled-is, near-start, near-on}
+use Rattle.judging.proofs.Offsets.{near-start, near-on}
+use Rattle.pattern.proofs.Offsets.{offsetOf, offset-start, onward-is, one-is, may-is, filled-is}
 
 -- ---- bytes that are all bits
 pub bits-of : (p : List ℕ) → length p ≤ plain p → Bits p

@@ -18,11 +18,12 @@ use Rattle.envelope.proofs.Tests.{is-true, to-T, is-taken, taken-is}
 use Rattle.pattern.specs.declared.Answer.{Answer}
 use Rattle.pattern.specs.declared.Answer.the-variants.{Refused}
 use Rattle.pattern.specs.Step.{oneMay, zeroMay}
-use Rattle.pattern.specs.Pattern.{longest, after, may, Inside, passed, plain}
+use Rattle.judging.specs.Bytes.{longest, plain}
+use Rattle.pattern.specs.Pattern.{after, may, Inside, passed}
 use Rattle.pattern.specs.Answer.{stepsOf, checkAnswer, firstAnswer, nextOf, doneOrLast, ifInside, nextAnswer}
 use Rattle.pattern.specs.Table.{Unfit, Refuses}
 use Rattle.pattern.specs.Walk.{PatternRefusals}
-use Rattle.pattern.proofs.Loops.{plain-before}
+use Rattle.judging.proofs.Loops.{plain-before}
 use Rattle.pattern.proofs.Checks.{Checked, checked, Checked.is-inside, Checked.no-envelope, Checked.too-long, Checked.no-bit, Checked.forbidden, plain-stops, passed-take, passed-stops}
 
 -- ---- the first byte that is no bit, and the first forbidden step, are where they are found

@@ -13,7 +13,8 @@ use Rattle.envelope.specs.Inner.Tests.{isTaken}
 use Rattle.pattern.specs.declared.Answer.{Answer}
 use Rattle.pattern.specs.declared.Answer.the-variants.{Inside, Done, Last, Refused}
 use Rattle.pattern.specs.Step.{oneMay, zeroMay}
-use Rattle.pattern.specs.Pattern.{longest, plain, passed, fill, next}
+use Rattle.judging.specs.Bytes.{longest, plain}
+use Rattle.pattern.specs.Pattern.{passed, fill, next}
 
 -- the number of a refusal, 0 where there is none
 abbrev pub answerNumber : Answer → ℕ

@@ -5,11 +5,7 @@ use mathlib.Core.Bool.{Bool, true, false, cond}
 use mathlib.Core.List.{List, [], _∷_}
 use mathlib.Core.Option.{Option, none, some}
 use lib.ListN.{length}
-use lib.Dec.{T, leb}
-
--- "pattern longer than 4,096"
-abbrev pub longest : ℕ
-longest = 4_096
+use lib.Dec.{T}
 
 -- the 1s behind, after one more bit
 abbrev pub after : ℕ → ℕ → ℕ
@@ -61,11 +57,6 @@ module _ (z o : ℕ → ℕ → Bool) where
   abbrev pub next : ℕ → ℕ → List ℕ → Option (List ℕ)
   next i j [] = none
   next i j (b ∷ p) = behind b (next (suc i) (after j b) p) (raised i j b (length p))
-
--- how many bytes come before the first that is neither 0 nor 1
-abbrev pub plain : List ℕ → ℕ
-plain [] = zero
-plain (b ∷ p) = cond (leb b 1) (suc (plain p)) zero
 
 -- "Order is binary, 0 before 1, earlier bit heavier": the number that a pattern reads as
 unfoldable pub number : List ℕ → ℕ

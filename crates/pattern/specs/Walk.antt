@@ -8,7 +8,8 @@ use Rattle.envelope.specs.declared.Envelope.{Envelope}
 use Rattle.envelope.specs.Envelope.{Taken}
 use Rattle.pattern.specs.declared.Answer.{Answer}
 use Rattle.pattern.specs.declared.Answer.the-variants.{Inside, Done, Last, Refused}
-use Rattle.pattern.specs.Pattern.{longest, number}
+use Rattle.judging.specs.Bytes.{longest}
+use Rattle.pattern.specs.Pattern.{number}
 use Rattle.pattern.specs.Beginning.{Begins}
 use Rattle.pattern.specs.Table.{Unfit, Refuses}
 use Rattle.pattern.specs.Answer.{checkAnswer, firstAnswer, nextAnswer, nextBytes, Firsts, Nexts}

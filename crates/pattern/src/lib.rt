@@ -2,18 +2,15 @@
 ghost use mathlib.Core.Path.{_≡_};
 ghost use mathlib.Core.List.{_++_};
 ghost use Prim.Native.Nat.{_-_, _≤_, _<_};
-ghost use lib.IntN.{pos, _+ℤ_};
-ghost use lib.Signed.{_≤ℤ_};
-ghost use lib.ListN.{length, take, drop};
+ghost use lib.IntN.{pos};
+ghost use lib.ListN.{length, take};
 ghost use Rattle.envelope.specs.Envelope.{numbers, Taken};
-ghost use Rattle.pattern.specs.declared.Judged.the-variants.{Sound};
-ghost use Rattle.pattern.specs.Pattern.{longest, plain};
+ghost use Rattle.judging.specs.Bytes.{longest, plain};
 ghost use Rattle.pattern.specs.Answer.{Checks, Firsts, Nexts};
-ghost use Rattle.pattern.specs.Inner.Scan.{Near, oneAt, zeroAt, mayAt, stepOf, offsetAfter, leastAt, filled, reached, scanned, leadingOf, floorOf, liftOf, largestFrom, judged};
+ghost use Rattle.judging.specs.Inner.Scan.{Near, offsetAfter};
+ghost use Rattle.pattern.specs.Inner.Lifts.{leastAt, filled, reached, liftOf};
 use envelope::Envelope;
-
-// A pattern's most bits.
-pub const LONGEST: usize = 4_096;
+use judging::Judged;
 
 // What an entry point answers: a refusal has its number and its place.
 pub enum Answer {
@@ -29,58 +26,12 @@ struct Lift {
     offset: i64,
 }
 
-// n*i - l*j past a pattern that is inside, or a refusal's number and place.
-enum Judged {
-    Sound(i64),
-    Unsound(u8, usize),
-}
-
-// Whether a 1 may follow where n*i - l*j is d.
-fn one_at(e: Envelope, d: i64) -> bool
-    requires { ⌜ Taken e ⌝ }
-    ensures { λ r. ⌜ r ≡ oneAt e d ⌝ }
-{
-    if e.k <= d { d <= e.K } else { false }
-}
-
-// Whether a 0 may follow there.
-fn zero_at(e: Envelope, d: i64) -> bool
-    requires { ⌜ Taken e ⌝ }
-    ensures { λ r. ⌜ r ≡ zeroAt e d ⌝ }
-{
-    d <= e.K - (e.n as i64)
-}
-
-// Whether the bit b may follow there.
-fn may_follow(e: Envelope, d: i64, b: u8) -> bool
-    requires { ⌜ Taken e ⌝ }
-    ensures { λ r. ⌜ r ≡ mayAt e d b ⌝ }
-{
-    if b == 0 { zero_at(e, d) } else { one_at(e, d) }
-}
-
-// What the bit b adds to n*i - l*j: a product takes no branch.
-fn step(e: Envelope, b: u8) -> i64
-    requires { ⌜ Taken e × (b ≤ 1) ⌝ }
-    ensures { λ r. ⌜ r ≡ stepOf e b ⌝ }
-{
-    e.n as i64 - (e.l * (b as u64)) as i64
-}
-
-// n*i - l*j after the bit b.
-fn moved_on(e: Envelope, d: i64, b: u8) -> i64
-    requires { ⌜ Taken e × Near longest d × (b ≤ 1) ⌝ }
-    ensures { λ r. ⌜ r ≡ offsetAfter e d b ⌝ }
-{
-    d + step(e, b)
-}
-
 // n*i - l*j before the bit b, where it is d after it.
 fn moved_back(e: Envelope, d: i64, b: u8) -> i64
     requires { ⌜ Taken e × Near longest d × (b ≤ 1) ⌝ }
     ensures { λ r. ⌜ offsetAfter e r b ≡ d ⌝ }
 {
-    d - step(e, b)
+    d - judging::step(e, b)
 }
 
 // The smaller bit that may follow.
@@ -88,105 +39,7 @@ fn least_at(e: Envelope, d: i64) -> u8
     requires { ⌜ Taken e ⌝ }
     ensures { λ r. ⌜ r ≡ leastAt e d ⌝ }
 {
-    if zero_at(e, d) { 0 } else { 1 }
-}
-
-// One pass: the first forbidden step, or n*i - l*j past the end.
-fn scan(e: Envelope, pattern: &[u8]) -> Judged
-    requires { ⌜ Taken e × (length (now pattern) ≤ longest) × (length (now pattern) ≤ plain (now pattern)) ⌝ }
-    ensures { λ r. ⌜ r ≡ scanned e 0 (pos 0) (now (pattern .entry)) ⌝ }
-{
-    let mut d: i64 = 0;
-    let mut i = 0;
-    while i < pattern.len() {
-        let b = pattern[i];
-        if !may_follow(e, d, b) {
-            return Judged::Unsound(reply::OUTSIDE, i);
-        }
-        d = moved_on(e, d, b);
-        i += 1;
-    }
-    Judged::Sound(d)
-}
-
-// How many 0s a pattern begins with.
-fn leading(pattern: &[u8]) -> usize
-    ensures { λ r. ⌜ r ≡ leadingOf (now (pattern .entry)) ⌝ }
-{
-    let mut i = 0;
-    while i < pattern.len() {
-        if pattern[i] != 0 {
-            return i;
-        }
-        i += 1;
-    }
-    i
-}
-
-// The least n*i - l*j that a 1 may leave behind.
-fn floor(e: Envelope) -> i64
-    requires { ⌜ Taken e ⌝ }
-    ensures { λ r. ⌜ r ≡ floorOf e ⌝ }
-{
-    e.k + step(e, 1)
-}
-
-// How far x is above `low`.
-fn above(x: i64, low: i64) -> u64
-    requires { ⌜ Near longest x × Near longest low × (low ≤ℤ x) ⌝ }
-    ensures { λ r. ⌜ pos r +ℤ low ≡ x ⌝ }
-{
-    (x - low) as u64
-}
-
-// How far above the floor a pattern ends; more than the room where it is outside. Below the floor a number wraps and is large: one test a bit.
-fn sweep(e: Envelope, room: u64, pattern: &[u8], from: usize, start: u64) -> u64
-    requires { ⌜ Taken e × (length (now pattern) ≤ plain (now pattern)) × (from ≤ length (now pattern)) ⌝ }
-    requires { ⌜ (pos room +ℤ floorOf e ≡ e .K) × (start ≤ room) ⌝ }
-    ensures { λ r. ⌜ (r ≤ room → scanned e from (pos start +ℤ floorOf e) (drop from (now (pattern .entry))) ≡ Sound (pos r +ℤ floorOf e)) ⌝ }
-{
-    let mut x = start;
-    let mut i = from;
-    while i < pattern.len() {
-        let step = std::num::wrapping_sub_u64(e.n, e.l * (pattern[i] as u64));
-        x = std::num::wrapping_add_u64(x, step);
-        if room < x {
-            return x;
-        }
-        i += 1;
-    }
-    x
-}
-
-// The same from the start: no 1 stands before `leading`, so that none can be too early there.
-fn height(e: Envelope, low: i64, room: u64, pattern: &[u8]) -> u64
-    requires { ⌜ Taken e × (length (now pattern) ≤ longest) × (length (now pattern) ≤ plain (now pattern)) ⌝ }
-    requires { ⌜ (low ≡ floorOf e) × (pos room +ℤ low ≡ e .K) ⌝ }
-    ensures { λ r. ⌜ (r ≤ room → scanned e 0 (pos 0) (now (pattern .entry)) ≡ Sound (pos r +ℤ floorOf e)) ⌝ }
-{
-    let from = leading(pattern);
-    let start = (e.n * (from as u64)) as i64;
-    if start < low {
-        return room + 1;
-    }
-    if e.K < start {
-        return room + 1;
-    }
-    sweep(e, room, pattern, from, above(start, low))
-}
-
-// The first forbidden step, or n*i - l*j past the end; looked for bit by bit only where a sweep finds one, or can't tell.
-fn sweep_or_scan(e: Envelope, pattern: &[u8]) -> Judged
-    requires { ⌜ Taken e × (length (now pattern) ≤ longest) × (length (now pattern) ≤ plain (now pattern)) ⌝ }
-    ensures { λ r. ⌜ r ≡ scanned e 0 (pos 0) (now (pattern .entry)) ⌝ }
-{
-    let low = floor(e);
-    let room = above(e.K, low);
-    let x = height(e, low, room, pattern);
-    if room < x {
-        return scan(e, pattern);
-    }
-    Judged::Sound(x as i64 + low)
+    if judging::zero_at(e, d) { 0 } else { 1 }
 }
 
 // The lift, looked for from the end: a walk turns bits near it.
@@ -201,7 +54,7 @@ fn last_lift(e: Envelope, pattern: &[u8], end: i64) -> Lift
         let b = pattern[i - 1];
         d = moved_back(e, d, b);
         if b == 0 {
-            if one_at(e, d) {
+            if judging::one_at(e, d) {
                 return Lift {
                     place: i,
                     offset: d,
@@ -216,56 +69,6 @@ fn last_lift(e: Envelope, pattern: &[u8], end: i64) -> Lift
     }
 }
 
-// The largest byte: a loop with no way out, of which the compiler makes vectors.
-fn largest(pattern: &[u8]) -> u8
-    ensures { λ r. ⌜ r ≡ largestFrom 0 (now (pattern .entry)) ⌝ }
-{
-    let mut most: u8 = 0;
-    let mut i = 0;
-    while i < pattern.len() {
-        let b = pattern[i];
-        if most < b {
-            most = b;
-        }
-        i += 1;
-    }
-    most
-}
-
-// How many bytes come before the first that is neither 0 nor 1.
-fn plain_len(pattern: &[u8]) -> usize
-    ensures { λ r. ⌜ r ≡ plain (now (pattern .entry)) ⌝ }
-{
-    if largest(pattern) <= 1 {
-        return pattern.len();
-    }
-    let mut i = 0;
-    while i < pattern.len() {
-        if 1 < pattern[i] {
-            return i;
-        }
-        i += 1;
-    }
-    i
-}
-
-// 12 to 15, or n*i - l*j past a pattern that is inside.
-fn judge(e: Envelope, pattern: &[u8]) -> Judged
-    ensures { λ r. ⌜ r ≡ judged e (now (pattern .entry)) ⌝ }
-{
-    if !e.is_taken() {
-        return Judged::Unsound(reply::NO_ENVELOPE, 0);
-    }
-    if LONGEST < pattern.len() {
-        return Judged::Unsound(reply::LONG_PATTERN, 0);
-    }
-    let plain = plain_len(pattern);
-    if plain < pattern.len() {
-        return Judged::Unsound(reply::NOT_A_BIT, plain);
-    }
-    sweep_or_scan(e, pattern)
-}
-
 // Writes the smallest bits that may follow, from place `from` on, where n*i - l*j is `start`.
 fn fill(e: Envelope, pattern: &mut [u8], from: usize, start: i64)
     requires { ⌜ Taken e × (length (now pattern) ≤ longest) × (from ≤ length (now pattern)) × Near from start ⌝ }
@@ -276,7 +79,7 @@ fn fill(e: Envelope, pattern: &mut [u8], from: usize, start: i64)
     while i < pattern.len() {
         let b = least_at(e, d);
         pattern[i] = b;
-        d = moved_on(e, d, b);
+        d = judging::moved_on(e, d, b);
         i += 1;
     }
 }
@@ -285,7 +88,7 @@ fn fill(e: Envelope, pattern: &mut [u8], from: usize, start: i64)
 pub fn check(k: i64, K: i64, l: u64, n: u64, pattern: &[u8]) -> Answer
     ensures { λ r. ⌜ Checks (numbers k K l n) (now (pattern .entry)) r ⌝ }
 {
-    match judge(Envelope { k, K, l, n }, pattern) {
+    match judging::judge(Envelope { k, K, l, n }, pattern) {
         Judged::Unsound(number, place) => Answer::Refused(number, place),
         Judged::Sound(_) => Answer::Inside,
     }
@@ -299,7 +102,7 @@ pub fn first(k: i64, K: i64, l: u64, n: u64, pattern: &mut [u8]) -> Answer
     if !e.is_taken() {
         return Answer::Refused(reply::NO_ENVELOPE, 0);
     }
-    if LONGEST < pattern.len() {
+    if judging::LONGEST < pattern.len() {
         return Answer::Refused(reply::LONG_PATTERN, 0);
     }
     fill(e, pattern, 0, 0);
@@ -311,7 +114,7 @@ pub fn next(k: i64, K: i64, l: u64, n: u64, pattern: &mut [u8]) -> Answer
     ensures { λ r. ⌜ Nexts (numbers k K l n) (now (pattern .entry)) r (now (pattern .exit)) ⌝ }
 {
     let e = Envelope { k, K, l, n };
-    match judge(e, pattern) {
+    match judging::judge(e, pattern) {
         Judged::Unsound(number, place) => Answer::Refused(number, place),
         Judged::Sound(end) => {
             let m = last_lift(e, pattern, end);
@@ -320,7 +123,7 @@ pub fn next(k: i64, K: i64, l: u64, n: u64, pattern: &mut [u8]) -> Answer
                 return Answer::Last;
             }
             pattern[place - 1] = 1;
-            let d = moved_on(e, m.offset, 1);
+            let d = judging::moved_on(e, m.offset, 1);
             fill(e, pattern, place, d);
             Answer::Done
         }

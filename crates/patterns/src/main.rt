@@ -42,7 +42,7 @@ fn put_line(out: &mut [u8], at: usize, bits: &[u8]) -> Place
     let n = out.len();
     match with_room(&out[..n], at, bits.len() + 1) {
         Place::Failed => Place::Failed,
-        Place::At(start) => Place::At(line::put_bits(out, start, bits)),
+        Place::At(start) => Place::At(dump::put_bits(out, start, bits)),
     }
 }
 

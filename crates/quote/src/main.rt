@@ -15,7 +15,7 @@ fn print_expression(expression: &[u8])
     requires { ⌜ length (now expression) ≤ 32769 ⌝ }
 {
     let mut text = hex_space();
-    let n = line::put_hex(&mut text, 0, expression);
+    let n = dump::put_hex(&mut text, 0, expression);
     terminal::print(b"quote", &text[..n]);
 }
 

@@ -1,6 +1,5 @@
 -- What the code reads into its tables, section by section.
 pub mod Readings
-pub mod BitCounts
 pub mod NodeTables
 pub mod WordTable
 pub mod ClockTable

@@ -1,20 +1,12 @@
-// Reads a design sheet once from left to right: words, clocks and links as sections of rows, each left in its table; and finds a clock in its bytes.
+// Reads a design sheet once from left to right: words, clocks and links as sections of rows, each left in its table.
 ghost use mathlib.Core.Path.{_≡_};
 ghost use mathlib.Core.List.{[]};
 ghost use Prim.Native.Nat.{_+_, _*_, _≤_, _<_};
 ghost use lib.ListN.{length};
-ghost use Rattle.field.specs.Field.{fieldOf};
-ghost use Rattle.field.specs.Read.{mapped};
-ghost use Rattle.expression.specs.Reader.{valueOf};
-ghost use Rattle.expression.specs.Evaluate.{wordNode};
 ghost use Rattle.expression.specs.Inner.Nodes.{HoldsNodes, nodesIn};
-ghost use Rattle.envelope.specs.Word.{onesIn};
-ghost use Rattle.sheet.specs.Sheet.{Sheet, clocksMost, linksMost};
-ghost use Rattle.sheet.specs.Reader.{rowsAt, sectionAt, bitsAt, wordAt, clockAt, linkAt, readSheet};
-ghost use Rattle.sheet.specs.Locating.{clockPlace, placeOf, locatedIn};
-ghost use Rattle.reading.specs.Inner.Sections.{WordRows, ClockRows, markedOf, markedAt, endsOf, wordBits, readingOf, Tabled, LinkRows, ToEnd, FromClocks};
-ghost use Rattle.reading.specs.Inner.Skipping.{HasClocks};
-use envelope::Envelope;
+ghost use Rattle.sheet.specs.Sheet.{clocksMost, linksMost};
+ghost use Rattle.sheet.specs.Reader.{rowsAt, sectionAt, clockAt, linkAt, readSheet};
+ghost use Rattle.reading.specs.Inner.Sections.{WordRows, ClockRows, markedOf, markedAt, endsOf, readingOf, Tabled, LinkRows, ToEnd, FromClocks};
 use envelope::Node;
 use expression::PER_NODE;
 use expression::Value;
@@ -32,65 +24,8 @@ pub const CLOCKS_MOST: usize = 128;
 
 pub const LINKS_MOST: usize = 256;
 
-// The longest prefix and the longest period.
-pub const BITS_MOST: usize = 64;
-
 // How deep nodes nest.
 pub const DEPTH_MOST: usize = 12;
-
-// n bits: how many of them are 1.
-fn bits(start: Cursor, s: &[u8], n: usize) -> Field
-    ensures { λ r. ⌜ fieldOf r ≡ mapped onesIn (bitsAt n (now (s .entry)) (start .at)) ⌝ }
-{
-    let mut c = start;
-    let mut ones: usize = 0;
-    let mut left = n;
-    while 0 < left {
-        let f = c.within(s, 1, 0, 2, reply::UNKNOWN);
-        let Field::Got(b, next) = f else {
-            return f;
-        };
-        ones = ones + b;
-        c = next;
-        left -= 1;
-    }
-    Field::Got(ones, c)
-}
-
-// The bits of a word: its prefix, then its period.
-fn word_bits(start: Cursor, s: &[u8], prefix: usize, period: usize) -> Value
-    requires { ⌜ (prefix ≤ 64) × (period ≤ 64) × (start .at ≤ length (now s)) ⌝ }
-    ensures { λ r. ⌜ valueOf r ≡ wordBits prefix period (now (s .entry)) (start .at) ⌝ }
-{
-    match bits(start, s, prefix) {
-        Field::Refused(number, place) => Value::Refused(number, place),
-        Field::Got(_, c) => match bits(c, s, period) {
-            Field::Refused(number, place) => Value::Refused(number, place),
-            Field::Got(ones, d) => {
-                if ones == 0 {
-                    return Value::Refused(reply::NO_ONE, c.at);
-                }
-                let from = start.at;
-                let to = d.at;
-                let envelope = Envelope::word(&s[from..to], prefix, ones as u64);
-                Value::Got(Node { envelope }, d)
-            }
-        },
-    }
-}
-
-// A word: its node.
-fn word(start: Cursor, s: &[u8]) -> Value
-    ensures { λ r. ⌜ valueOf r ≡ mapped wordNode (wordAt (now (s .entry)) (start .at)) ⌝ }
-{
-    match start.within(s, 1, 0, BITS_MOST + 1, reply::BEYOND) {
-        Field::Refused(number, place) => Value::Refused(number, place),
-        Field::Got(prefix, c) => match c.within(s, 1, 1, BITS_MOST + 1, reply::BEYOND) {
-            Field::Refused(number, place) => Value::Refused(number, place),
-            Field::Got(period, d) => word_bits(d, s, prefix, period),
-        },
-    }
-}
 
 // The words section: how many words there are, and the cursor past them; their nodes are left in `table`.
 fn read_words(start: Cursor, s: &[u8], table: &mut [i32]) -> Field
@@ -104,7 +39,7 @@ fn read_words(start: Cursor, s: &[u8], table: &mut [i32]) -> Field
     let mut c = d;
     let mut i: usize = 0;
     while i < n {
-        match word(c, s) {
+        match word::word(c, s) {
             Value::Refused(number, place) => {
                 return Field::Refused(number, place);
             }
@@ -298,40 +233,6 @@ pub fn read(s: &[u8], table: &mut [i32], states: &mut [u8], ends: &mut [u8]) -> 
         Field::Got(w, c) => {
             let end = PER_NODE * w;
             read_from_clocks(c, s, &list[..end], table, states, ends)
-        }
-    }
-}
-
-// Where clock `i` begins, from the place of the first clock on.
-fn locate(s: &[u8], first: usize, i: usize) -> usize
-    requires { ⌜ ((v : Sheet) × HasClocks (now s) first i v) ⌝ }
-    ensures { λ r. ⌜ ((v : Sheet) → HasClocks (now (s .entry)) first i v → r ≡ clockPlace v i) ⌝ }
-{
-    let mut at = first;
-    let mut j: usize = 0;
-    while j < i {
-        at = expression::past(s, at + 1);
-        j += 1;
-    }
-    at
-}
-
-// Where clock `i` of a sheet begins, and the cursor past it; or the refusal.
-pub fn find(s: &[u8], i: usize) -> Field
-    ensures { λ r. ⌜ fieldOf r ≡ mapped placeOf (locatedIn (now (s .entry)) i) ⌝ }
-{
-    let mut table = [0i32; 512];
-    let mut states = [0u8; 128];
-    let mut ends = [0u8; 512];
-    match read(s, &mut table, &mut states, &mut ends) {
-        Reading::Refused(number, place) => Field::Refused(number, place),
-        Reading::Got(found) => {
-            if found.clocks <= i {
-                return Field::Refused(reply::NO_CLOCK, 0);
-            }
-            let at = locate(s, found.clockrows, i);
-            let end = expression::past(s, at + 1);
-            Field::Got(at, Cursor { at: end })
         }
     }
 }

@@ -15,7 +15,7 @@ use Rattle.expression.specs.Expression.{Clock}
 use Rattle.sheet.specs.Reader.{readSheet}
 use Rattle.sheet.specs.SheetRead.{SheetRead}
 use Rattle.sheet.proofs.Refusing.Format.{refused-listed, listed-refused, accepted-passed, passed-accepted}
-use Rattle.reading.proofs.Finding.Finds.{past-the-last}
+use Rattle.finding.proofs.Finds.{past-the-last}
 use Rattle.register.specs.Closing.{closingOf, closingReply, closingNumber, closingPlace}
 use Rattle.register.specs.Quoting.{quotingOf, quoteReply}
 use Rattle.register.specs.Table.{QuoteRefused, CloseRefused}

@@ -14,7 +14,7 @@ pub fn close(sheet: &mut [u8], clock: usize) -> Closing
     ensures { λ r. ⌜ Closes (now (sheet .entry)) clock r (now (sheet .exit)) ⌝ }
 {
     let n = sheet.len();
-    match reading::find(&sheet[..n], clock) {
+    match finding::find(&sheet[..n], clock) {
         Field::Refused(number, place) => Closing::Refused(number, place),
         Field::Got(at, _) => {
             if sheet[at] == 1 {
@@ -30,7 +30,7 @@ pub fn close(sheet: &mut [u8], clock: usize) -> Closing
 pub fn quote(sheet: &[u8], clock: usize) -> &[u8]
     ensures { λ r. ⌜ Quotes (now (sheet .entry)) clock (sheet .entry .ptr) (now r) (r .ptr) ⌝ }
 {
-    match reading::find(sheet, clock) {
+    match finding::find(sheet, clock) {
         Field::Refused(_, _) => &sheet[..0],
         Field::Got(at, c) => {
             let from = at + 1;
@@ -49,7 +49,7 @@ pub struct QuoteReply {
 pub fn quote_reply(sheet: &[u8], clock: usize) -> QuoteReply
     ensures { λ r. ⌜ RepliesTo (now (sheet .entry)) clock r ⌝ }
 {
-    match reading::find(sheet, clock) {
+    match finding::find(sheet, clock) {
         Field::Refused(number, place) => QuoteReply { number, place },
         Field::Got(_, _) => QuoteReply {
             number: 0,

@@ -3,7 +3,7 @@
 use borrow.Author.Needs.{needs}
 use mathlib.Core.Path.{sym, _∙_}
 use Rattle.envelope.specs.declared.Envelope.{Envelope}
-use Rattle.pattern.specs.declared.Judged.the-variants.{Sound, Unsound}
+use Rattle.judging.specs.declared.Judged.the-variants.{Sound, Unsound}
 use Rattle.pattern.proofs.Answers.{heldOf, checks-given, check-is}
 use Rattle.pattern.proofs.check.Statement.{statement}
 use Rattle.pattern.proofs.check.Tie as tie

@@ -9,10 +9,12 @@ use lib.ListN.{length, take, length-set}
 use mir.Syntax.{w64}
 use mir.Val.{toZ}
 use mir.Facts.{toZ-ofZ}
-use Rattle.pattern.specs.Pattern.{longest}
-use Rattle.pattern.specs.Inner.Scan.{Near, filled}
-use Rattle.pattern.proofs.Offsets.{near-more}
-use Rattle.pattern.proofs.Loops.{on-held, near-turn, least-bit, fill-turn, fill-end}
+use Rattle.judging.specs.Bytes.{longest}
+use Rattle.judging.specs.Inner.Scan.{Near}
+use Rattle.pattern.specs.Inner.Lifts.{filled}
+use Rattle.judging.proofs.Offsets.{near-more}
+use Rattle.judging.proofs.Loops.{on-held, near-turn}
+use Rattle.pattern.proofs.Loops.{least-bit, fill-turn, fill-end}
 use Rattle.pattern.proofs.fill.Statement.{statement}
 use Rattle.pattern.proofs.fill.Tie as tie
 

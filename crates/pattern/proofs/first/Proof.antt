@@ -6,7 +6,7 @@ use native.Mathlib.Omega.{arith}
 use mathlib.Core.Path.{sym, _∙_}
 use Rattle.envelope.specs.declared.Envelope.{Envelope}
 use Rattle.envelope.proofs.Tests.{is-taken}
-use Rattle.pattern.proofs.Offsets.{near-start}
+use Rattle.judging.proofs.Offsets.{near-start}
 use Rattle.pattern.proofs.Answers.{heldOf, firsts-given, first-none, first-long, first-done}
 use Rattle.pattern.proofs.first.Statement.{statement}
 use Rattle.pattern.proofs.first.Tie as tie

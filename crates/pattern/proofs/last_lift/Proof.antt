@@ -11,10 +11,13 @@ use mir.Syntax.{w64}
 use mir.Val.{toZ, ofZ}
 use mir.Facts.{toZ-ofZ}
 use Rattle.whole.proofs.Machine.{told}
-use Rattle.pattern.specs.Pattern.{longest}
-use Rattle.pattern.specs.Inner.Scan.{offsetAfter, reached, liftOf}
-use Rattle.pattern.proofs.Offsets.{near-more, near-reached}
-use Rattle.pattern.proofs.Loops.{plain-before, offset-back, lift-found, lift-stays}
+use Rattle.judging.specs.Bytes.{longest}
+use Rattle.judging.specs.Inner.Scan.{offsetAfter}
+use Rattle.pattern.specs.Inner.Lifts.{reached, liftOf}
+use Rattle.judging.proofs.Offsets.{near-more}
+use Rattle.pattern.proofs.Offsets.{near-reached}
+use Rattle.judging.proofs.Loops.{plain-before}
+use Rattle.pattern.proofs.Loops.{offset-back, lift-found, lift-stays}
 use Rattle.pattern.proofs.last_lift.Statement.{statement}
 use Rattle.pattern.proofs.last_lift.Tie as tie
 

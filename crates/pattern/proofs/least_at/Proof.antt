@@ -3,7 +3,7 @@
 use borrow.Author.Needs.{needs}
 use mathlib.Core.Path.{ap, sym, _∙_}
 use mir.Facts.{toZ-ofZ}
-use Rattle.pattern.specs.Inner.Scan.{zeroAt}
+use Rattle.judging.specs.Inner.Scan.{zeroAt}
 use Rattle.pattern.proofs.least_at.Statement.{statement}
 use Rattle.pattern.proofs.least_at.Tie as tie
 

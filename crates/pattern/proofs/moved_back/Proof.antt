@@ -7,7 +7,7 @@ use mir.Facts.{toZ-ofZ}
 use mir.Syntax.{w64}
 use mir.Val.{toZ, ofZ}
 use Rattle.whole.proofs.Machine.{told, fits-by, back-by}
-use Rattle.pattern.specs.Inner.Scan.{stepOf, offsetAfter}
+use Rattle.judging.specs.Inner.Scan.{stepOf, offsetAfter}
 use Rattle.pattern.proofs.Offsets.{back-fits, back-on}
 use Rattle.pattern.proofs.moved_back.Statement.{statement}
 use Rattle.pattern.proofs.moved_back.Tie as tie

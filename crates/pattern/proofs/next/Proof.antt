@@ -5,8 +5,8 @@ use native.Mathlib.Omega.{arith}
 use mathlib.Core.Path.{_≡_, sym, _∙_}
 use lib.ListN.{length-set}
 use Rattle.envelope.specs.declared.Envelope.{Envelope}
-use Rattle.pattern.specs.declared.Judged.the-variants.{Sound}
-use Rattle.pattern.specs.Inner.Scan.{judged}
+use Rattle.judging.specs.declared.Judged.the-variants.{Sound}
+use Rattle.judging.specs.Inner.Scan.{judged}
 use Rattle.pattern.proofs.Answers.{heldOf, nexts-given, next-bad, next-last, next-done, within, short, taken, all-bits, end-held, near-held-lift, near-after}
 use Rattle.pattern.proofs.next.Statement.{statement}
 use Rattle.pattern.proofs.next.Tie as tie

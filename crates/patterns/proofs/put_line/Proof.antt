@@ -4,7 +4,7 @@ use native.Mathlib.Omega.{arith}
 use lib.ListN.{length}
 use lib.Seq.{length-take-le}
 use Rattle.line.proofs.Puts.{put-at}
-use Rattle.line.proofs.BitLine.{bits-length}
+use Rattle.dump.proofs.BitLine.{bits-length}
 use borrow.Author.Needs.{needs}
 use Rattle.patterns.proofs.put_line.Statement.{statement}
 use Rattle.patterns.proofs.put_line.Tie as tie

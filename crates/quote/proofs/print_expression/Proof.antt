@@ -3,7 +3,7 @@ use mathlib.Core.Path.{sym}
 use native.Mathlib.Omega.{arith}
 use lib.Seq.{length-take-le}
 use Rattle.line.proofs.Puts.{put-at, put-length}
-use Rattle.line.proofs.HexLine.{hex-length}
+use Rattle.dump.proofs.HexLine.{hex-length}
 use borrow.Author.Needs.{needs}
 use Rattle.quote.proofs.print_expression.Statement.{statement}
 use Rattle.quote.proofs.print_expression.Tie as tie

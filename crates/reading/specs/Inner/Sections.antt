@@ -1,18 +1,14 @@
 -- What the code's readers of sections answer, and what they leave in the tables that are lent to them: each by the one reader of Reader.antt.
 use mathlib.Core.Path.{_≡_}
-use mathlib.Core.Bool.{cond}
 use mathlib.Core.List.{List, [], _∷_, map}
 use Prim.Native.Nat.{ℕ, _+_, _*_}
 use lib.IntN.{ℤ}
-use lib.Dec.{leb}
 use lib.ListN.{length, take, getD}
-use Rattle.reply.specs.Numbers.{unknown, noOne}
+use Rattle.reply.specs.Numbers.{unknown}
 use Rattle.field.specs.Read.{Read, Read.got, Read.refused, bind, mapped}
 use Rattle.field.specs.Field.{fieldIn, fieldOf}
 use Rattle.field.specs.declared.Field.{Field}
 use Rattle.envelope.specs.declared.Node.{Node}
-use Rattle.envelope.specs.Word.{onesIn, wordOf}
-use Rattle.envelope.specs.Made.{nodeOf}
 use Rattle.expression.specs.Expression.{Word, Clock, depthMost, spellWord}
 use Rattle.expression.specs.Evaluate.{wordNodes}
 use Rattle.expression.specs.Reader.{exprAt, nodeIn}
@@ -22,15 +18,10 @@ use Rattle.reading.specs.declared.Ends.{Ends}
 use Rattle.reading.specs.declared.Found.{Found}
 use Rattle.reading.specs.declared.Reading.{Reading}
 use Rattle.sheet.specs.Sheet.{Link, section, wordsMost}
-use Rattle.sheet.specs.Reader.{sectionAt, bitsAt, wordAt, linksOn, clocksOn}
+use Rattle.sheet.specs.Reader.{sectionAt, wordAt, linksOn, clocksOn}
 use Rattle.sheet.specs.SheetRead.{ClockNode, nodeOfClock, SheetRead}
 
 -- ---- words
-
--- a word's bits, prefix and period, with the node that they make
-unfoldable pub wordBits : ℕ → ℕ → List ℕ → ℕ → Read Node
-wordBits p q s a =
-    bind (bitsAt p s a) λ u c. bind (bitsAt q s c) λ v d. cond (leb 1 (onesIn v)) (got (nodeOf (wordOf u v)) d) (refused noOne c)
 
 -- how many words, and their nodes in the table
 abbrev pub WordsLeft : Read (List Word) → Field → List ℤ → Type 0

@@ -15,8 +15,8 @@ put-envelope-spec =
     (λ c κs. tt)
     (λ c. search needs)
     (λ c.
-      let l-put = c .before .before .before .before .before .before in
-      let K-told = l-put .before .before .before .before .before in
-      let k-told = K-told .before .before .before .before .before in
-      let s = k-told .before .before .before in
-      cc (told (s .args .e .k) (let g = k-told .struct-told .given in omega arith), told (s .args .e .K) (let g = K-told .struct-told2 .given in omega arith))))
+    let l-put = c .before .before .before .before .before .before in
+    let K-told = l-put .before .before .before .before .before in
+    let k-told = K-told .before .before .before .before .before in
+    let s = k-told .before .before .before in
+    cc (told (s .args .e .k) (let g = k-told .struct-told .given in omega arith), told (s .args .e .K) (let g = K-told .struct-told2 .given in omega arith))))

@@ -7,7 +7,6 @@ use lib.IntN.{ℤ, pos}
 use mir.Syntax.{w64}
 use mir.Val.{toZ, ofZ}
 use mir.Facts.{toZ-ofZ}
-use Rattle.envelope.specs.declared.Envelope.{Envelope}
 use Rattle.envelope.specs.Envelope.{numbers, beforeStart, resultOf}
 use Rattle.envelope.proofs.Envelope.result.Statement.{statement}
 use Rattle.envelope.proofs.Envelope.result.Tie as tie

@@ -1,0 +1,2 @@
+pub mod BitLine
+pub mod HexLine

@@ -1,0 +1,4 @@
+pub mod Offsets
+pub mod Loops
+pub mod Sweeps
+pub mod Judging

@@ -1,0 +1,2 @@
+-- Definitions that only contracts of inner functions and proofs use: no demand rests on them.
+pub mod Scan

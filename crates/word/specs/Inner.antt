@@ -1,0 +1,3 @@
+-- Definitions that only contracts of inner functions and proofs use: no demand rests on them.
+pub mod Span
+pub mod Bits
