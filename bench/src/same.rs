@@ -12,6 +12,7 @@ fn is_taken(four: &Four) -> bool {
         && (1..=l).contains(&n)
         && high - low >= n as i64 - 1
         && gcd(l as i64, n as i64) == 1
+        && !(l == 1 && low < 0)
 }
 
 /// Whether every step may be taken: one test a bit, of a number that wraps below the floor.

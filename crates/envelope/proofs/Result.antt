@@ -1,5 +1,5 @@
--- What the one place through which every result goes does to it. At l = n = 1 a lower edge below 0 becomes 0: p(j) is at least j, since before it
--- stand j 1s at least, so no stream is lost or gained; no limit is passed; and nothing is left to raise.
+-- What the one place through which every result goes does to it. At l = n = 1 a lower edge below 0 becomes 0: p(j) is at least j, since j 1s
+-- stand before it, so no stream is lost or gained; no limit is passed; and nothing is left to raise.
 -- Assumes nothing.
 use mathlib.Core.Path.{_≡_, refl, ap}
 use mathlib.Core.Bool.{Bool, true, false, cond}

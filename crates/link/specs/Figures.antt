@@ -1,7 +1,7 @@
 -- "Figures to hold the work to": those on envelopes and links. What the rules give, and what document 01 says, or item 3 of document 02.
 use mathlib.Core.List.{List, [], _∷_}
 use Prim.Native.Nat.{ℕ}
-use lib.IntN.{ℤ, pos, negℤ}
+use lib.IntN.{pos, negℤ}
 use Rattle.envelope.specs.declared.Envelope.{Envelope}
 use Rattle.envelope.specs.declared.Made.{Made}
 use Rattle.envelope.specs.declared.Made.the-variants.{Good, Empty, FullRate, Outgrown}
@@ -17,9 +17,6 @@ pub data Figure : Type 0 where
   refused : ℕ → Figure
   verdict : Verdict → Figure
 
-abbrev pub negative : ℕ → ℤ
-negative n = negℤ (pos n)
-
 -- what a rule makes: "taken as" an envelope, or "refused" with a number
 abbrev pub made : Made → Figure
 made (Good x) = envelope (x .envelope)
@@ -33,7 +30,7 @@ w11010 = wordOf [] (1 ∷ 1 ∷ 0 ∷ 1 ∷ 0 ∷ [])
 
 -- declared -2 0 1 1
 abbrev pub raisedOne : Envelope
-raisedOne = normalOf (negative 2) (pos 0) 1 1
+raisedOne = normalOf (negℤ (pos 2)) (pos 0) 1 1
 
 abbrev pub given : List Figure
 given =
@@ -49,7 +46,7 @@ given =
     ∷ made (declaredOf (pos 0) (pos 1) 5 3)
     ∷ made (declaredOf (pos 0) (pos 0) 2 2)
     ∷ made (declaredOf (pos 1) (pos 9) 10 6)
-    ∷ made (declaredOf (negative 2) (pos 0) 1 1)
+    ∷ made (declaredOf (negℤ (pos 2)) (pos 0) 1 1)
     ∷ made (negatedOf (wordOf (0 ∷ []) (1 ∷ [])))
     ∷ verdict (verdictOf (numbers (pos 0) (pos 2) 5 3) (numbers (pos 0) (pos 2) 5 3))
     ∷ verdict (verdictOf (numbers (pos 0) (pos 3) 5 3) (numbers (pos 0) (pos 2) 5 3))
@@ -59,14 +56,14 @@ given =
 
 abbrev pub said : List Figure
 said =
-    envelope (numbers (negative 2) (pos 0) 5 3)
+    envelope (numbers (negℤ (pos 2)) (pos 0) 5 3)
     ∷ envelope (numbers (pos 5) (pos 9) 5 3)
     ∷ envelope (numbers (pos 2) (pos 2) 5 1)
     ∷ envelope (numbers (pos 0) (pos 0) 4 1)
     ∷ envelope (numbers (pos 1) (pos 1) 5 1)
     ∷ envelope (numbers (pos 0) (pos 0) 5 1)
-    ∷ envelope (numbers (negative 3) (pos 0) 5 2)
-    ∷ envelope (numbers (negative 6) (pos 0) 5 2)
+    ∷ envelope (numbers (negℤ (pos 3)) (pos 0) 5 2)
+    ∷ envelope (numbers (negℤ (pos 6)) (pos 0) 5 2)
     ∷ envelope (numbers (pos 2) (pos 9) 5 3)
     ∷ refused 7
     ∷ envelope (numbers (pos 0) (pos 0) 1 1)

@@ -1,12 +1,14 @@
 // The listing of a sheet: its text in a lent buffer, byte for byte document 01's.
 ghost use mathlib.Core.Path.{_≡_};
+ghost use Prim.Native.Nat.{_≤_};
+ghost use lib.Dec.{leb};
 ghost use lib.ListN.{length};
 ghost use Rattle.line.specs.Text.{outOf, putField, putFields, putLine, Put};
 ghost use Rattle.expression.specs.Inner.Nodes.{nodesIn};
 ghost use Rattle.reading.specs.Inner.Sections.{linksOf};
 ghost use Rattle.sizing.specs.Inner.Rows.{rowsIn, Ready};
 ghost use Rattle.line.specs.Letters.{letters};
-ghost use Rattle.report.specs.Listing.{stateWord, verdictWord, envelopeFields, clockFields, linkFields, roomFields, clockLines, fittedText, over, ListsInto};
+ghost use Rattle.report.specs.Listing.{stateWord, verdictWord, envelopeFields, clockFields, linkFields, roomFields, clockLines, listingMost, fittedText, over, ListsInto};
 ghost use Rattle.report.specs.Inner.Parts.{Many, LinksPut, tableText};
 use envelope::Envelope;
 use expression::PER_NODE;
@@ -145,19 +147,27 @@ pub enum Listed {
     Refused(u8, usize),
 }
 
-// An empty buffer measures the text.
+// Whether so many bytes are enough for the text. An empty buffer measures it, where there are fewer than the longest text has.
+fn enough(table: &[i32], states: &[u8], ends: &[u8], n: usize, room: usize) -> bool
+    requires { ⌜ Ready (now table) (now states) (now ends) n × (length (tableText (now table) (now states) (now ends)) ≤ listingMost) ⌝ }
+    ensures { λ r. ⌜ r ≡ leb (length (tableText (now (table .entry)) (now (states .entry)) (now (ends .entry)))) room ⌝ }
+{
+    if TEXT_MOST <= room {
+        return true;
+    }
+    let mut none = [0u8; 0];
+    put_sheet(&mut none, table, states, ends, n) <= room
+}
+
 fn list_read(table: &[i32], states: &[u8], ends: &[u8], n: usize, text: &mut [u8]) -> Listed
-    requires { ⌜ Ready (now table) (now states) (now ends) n ⌝ }
+    requires { ⌜ Ready (now table) (now states) (now ends) n × (length (tableText (now table) (now states) (now ends)) ≤ listingMost) ⌝ }
     ensures listed { λ r. ⌜ r ≡ fittedText (tableText (now (table .entry)) (now (states .entry)) (now (ends .entry))) (length (now (text .entry))) ⌝ }
     ensures text { λ _. ⌜ now (text .exit) ≡ over (tableText (now (table .entry)) (now (states .entry)) (now (ends .entry))) (now (text .entry)) ⌝ }
 {
-    let mut none = [0u8; 0];
-    let need = put_sheet(&mut none, table, states, ends, n);
-    if text.len() < need {
-        return Listed::Refused(reply::SHORT_RESULT, 0);
+    if enough(table, states, ends, n, text.len()) {
+        return Listed::Text(put_sheet(text, table, states, ends, n));
     }
-    put_sheet(text, table, states, ends, n);
-    Listed::Text(need)
+    Listed::Refused(reply::SHORT_RESULT, 0)
 }
 
 // The listing of any bytes, or their refusal.

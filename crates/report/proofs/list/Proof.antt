@@ -13,7 +13,7 @@ use Rattle.sheet.specs.Reader.{readSheet}
 use Rattle.sheet.specs.SheetRead.{SheetRead}
 use Rattle.reading.specs.Inner.Sections.{foundOf}
 use Rattle.sizing.proofs.Outcome.{reading-refused, reading-got, clocks-few, links-few, ready}
-use Rattle.report.proofs.Texts.{listed-refused, listed-good}
+use Rattle.report.proofs.Texts.{listed-refused, text-most, listed-good}
 use borrow.Author.Needs.{needs}
 use Rattle.report.proofs.list.Statement.{statement}
 use Rattle.report.proofs.list.Tie as tie
@@ -45,7 +45,8 @@ list-read-requires : tie.Need-list-read-requires
 list-read-requires c κs =
     let k = c .before .before .before .before in
     let w = whole k in
-    ready _ (bytes k) (w .0) (w .1) (w .2) _ (w .3) _ _ _ (k .before .before .before .before .before .before .read .ensures .1)
+    let tabled = k .before .before .before .before .before .before .read .ensures .1 in
+    (ready _ (bytes k) (w .0) (w .1) (w .2) _ (w .3) _ _ _ tabled, text-most _ (bytes k) (w .0) (w .1) (w .2) _ (w .3) _ _ _ tabled)
 
 returns : tie.Need-returns
 returns c = listed-refused _ _ _ _ (reading-refused _ _ _ (sym (c .before .number .given .1) ∙ c .before .before .before .before .before .before .read .ensures .0))
@@ -55,7 +56,7 @@ returns-2 c =
     let l = c .before .before in
     let k = l .before .before .before .before .before in
     let w = whole k in
-    listed-good _ _ (bytes k) (w .0) (w .1) (w .2) _ (w .3) _ _ _ (k .before .before .before .before .before .before .read .ensures .1) _ _ (l .list-read .ensures)
+    listed-good _ (bytes k) (w .0) (w .1) (w .2) _ (w .3) _ _ _ (k .before .before .before .before .before .before .read .ensures .1) _ _ _ (l .list-read .ensures)
 
 pub list-spec : {M : Type 1} → statement M
 list-spec =
