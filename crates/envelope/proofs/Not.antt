@@ -16,6 +16,7 @@ use Rattle.envelope.specs.Stream.{Stream, ones, Position, Keeps, Lies, H
 use Rattle.envelope.specs.Envelope.{notOf}
 use Rattle.envelope.proofs.Counts.{ones-one, ones-zero, ones-none, earlier}
 use Rattle.envelope.proofs.Streams.{later}
+use Rattle.envelope.proofs.Tests.{not-true}
 use Rattle.envelope.proofs.Result.{result-keeps}
 
 -- the 0s and the 1s of the first t are t
@@ -61,10 +62,6 @@ notStream s e h p = (record { bit = notBits (s .bit); endless = λ t. turn t (ze
   where
     turn : (t : ℕ) → (u : ℕ) × (t ≤ u) × (s .bit u ≡ false) → (u : ℕ) × (t ≤ u) × (notBits (s .bit) u ≡ true)
     turn t r = (r .0, r .1, ap not (r .2))
-
-not-true : (x : Bool) → not x ≡ true → x ≡ false
-not-true true e = sym e
-not-true false e = refl
 
 pub not-keeps : (s : Stream) (e : Envelope) → e .n < e .l → Lies s e → Keeps (notBits (s .bit)) (notOf e)
 unfolding notOf

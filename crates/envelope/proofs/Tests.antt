@@ -62,7 +62,7 @@ in-time k l n h = go (beforeStart k l n) refl
     go false e = refl
     go true e = let s = is-before k l n e in absurd (omega (arith, orders, s .2, h (s .0) (s .1)))
 
-not-true : (b : Bool) → not b ≡ true → b ≡ false
+pub not-true : (b : Bool) → not b ≡ true → b ≡ false
 not-true false h = refl
 not-true true h = absurd (false≢true h)
 
