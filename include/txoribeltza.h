@@ -87,6 +87,8 @@ enum {
     TXORI_PATTERN_MOST = 4096,
     /* A listing's most bytes: a buffer of so many is never too short for txori_list. */
     TXORI_LISTING_MOST = 18463,
+    /* A call's most bytes of stack, whatever it is given, besides what memcpy and memset take. */
+    TXORI_STACK_MOST = 8600,
 
     /* Numbers per clock: k, K, l, n. */
     TXORI_PER_CLOCK = 4,
