@@ -1,4 +1,6 @@
 // Answers cases from standard input by the entry points, as docs/BATCH.md says.
+#![tactic(auto)]
+
 mod answer;
 
 ghost use Rattle.std.specs.Prelude.{◌≡◌, ◌≤◌, length};
@@ -42,7 +44,7 @@ const NEXT: u8 = 6;
 const LIST: u8 = 7;
 
 // What became of a case.
-#[derive(Drop)]
+#[derive(Clone, Copy)]
 enum Turn {
     Answered,
     Malformed,

@@ -1,4 +1,6 @@
 // Closes a clock of a sheet in its file: close FILE CLOCK
+#![tactic(auto)]
+
 ghost use Rattle.std.specs.Prelude.{◌≡◌, ◌≤◌, length};
 ghost use Rattle.io.specs.Counts.{IsPrefixLen};
 ghost use Rattle.libc.specs.Io.{Ended};

@@ -1,5 +1,7 @@
 // The entry points, each behind the contract that specs/Demands.antt speaks of. The functions here only call them: were a contract below weaker
 // than the record that stands here, this crate would not be proved.
+#![tactic(auto)]
+
 ghost use Rattle.envelope.specs.Envelope.{numbers};
 ghost use Rattle.pattern.specs.Answer.{Checks, Firsts, Nexts};
 ghost use Rattle.sizing.specs.WorkOut.{WorksOut};

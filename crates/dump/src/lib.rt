@@ -1,4 +1,6 @@
 // Bits and bytes as text: a pattern's line, an expression in hexadecimal.
+#![tactic(auto)]
+
 mod bits;
 mod hex;
 

@@ -1,11 +1,13 @@
 // Envelopes: their limits, the rules that make them, and what a node of an expression comes to.
+#![tactic(auto)]
+
 ghost use Rattle.std.specs.Prelude.{◌≡◌, ◌-◌, ◌*◌, ◌≤◌, ◌<◌, ◌^◌, pos, ◌+ℤ◌, ◌*ℤ◌, ◌≤ℤ◌};
 ghost use Rattle.envelope.specs.Limits.{l_most, lower_least, lower_most};
 ghost use Rattle.envelope.specs.Envelope.{Limits, within_limits, has_room, Taken, before_start, result_of, normal_of, not_of, on_of};
 ghost use Rattle.envelope.specs.Made.{Fields, declared_of, limited, negated_of, on_within_limits};
 ghost use Rattle.envelope.specs.Inner.Tests.{is_taken};
 
-#[derive(Drop)]
+#[derive(Clone, Copy)]
 pub struct Envelope {
     pub k: i64,
     pub K: i64,
@@ -14,13 +16,13 @@ pub struct Envelope {
 }
 
 // What an evaluated node comes to.
-#[derive(Drop)]
+#[derive(Clone, Copy)]
 pub struct Node {
     pub envelope: Envelope,
 }
 
 // What a rule makes of a node's parts.
-#[derive(Drop)]
+#[derive(Clone, Copy)]
 pub enum Made {
     Good(Node),
     Empty,

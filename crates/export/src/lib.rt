@@ -1,4 +1,6 @@
 // The library's entry points under C's calling convention, prefix `txori_`. A slice is a pointer and then a length.
+#![tactic(auto)]
+
 ghost use Rattle.std.specs.Prelude.{◌≡◌};
 ghost use Rattle.sizing.specs.WorkOut.{WorksOut};
 ghost use Rattle.register.specs.Closing.{Closes};
@@ -17,7 +19,7 @@ const LAST: u64 = 255;
 
 // A refusal's number and place, or what the entry point says of a success.
 #[repr(C)]
-#[derive(Drop)]
+#[derive(Clone, Copy)]
 pub struct TxoriReply {
     pub number: u64,
     pub place: u64,
@@ -25,7 +27,7 @@ pub struct TxoriReply {
 
 // What working a sheet out answers.
 #[repr(C)]
-#[derive(Drop)]
+#[derive(Clone, Copy)]
 pub struct TxoriWorkOut {
     pub number: u64,
     pub place: u64,
@@ -37,7 +39,7 @@ pub struct TxoriWorkOut {
 
 // What was written into a lent buffer: how many bytes, from its start on.
 #[repr(C)]
-#[derive(Drop)]
+#[derive(Clone, Copy)]
 pub struct TxoriWritten {
     pub number: u64,
     pub place: u64,

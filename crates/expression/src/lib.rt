@@ -1,4 +1,6 @@
 // Expressions: the evaluator that calls itself, over tables of nodes that are lent and never copied.
+#![tactic(auto)]
+
 ghost use Rattle.std.specs.Prelude.{◌≡◌, ℕ, ◌+◌, ◌*◌, ◌<◌};
 ghost use Rattle.std.proofs.lemmas.List.Edits.{sets};
 ghost use Rattle.envelope.specs.Envelope.{Taken};
@@ -30,7 +32,7 @@ const TAG_MOST: usize = CLOCK;
 pub const PER_NODE: usize = 4;
 
 // A node and the cursor past it; or a refusal's number and place.
-#[derive(Drop)]
+#[derive(Clone, Copy)]
 pub enum Value {
     Got(Node, Cursor),
     Refused(u8, usize),

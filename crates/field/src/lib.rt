@@ -1,4 +1,6 @@
 // Fields of a sheet: a cursor by value, whose methods answer a field with the moved cursor, or a refusal with its place. And numbers in bytes.
+#![tactic(auto)]
+
 mod number;
 
 ghost use Rattle.std.specs.Prelude.{◌≡◌, ◌≤◌};
@@ -6,20 +8,20 @@ ghost use Rattle.field.specs.Field.{field_at, field_in, signed_at, signed_in, fi
 
 pub use number::{HALF_32, HALF_64, from_twos, low_first, put_low_first, to_twos};
 
-#[derive(Drop)]
+#[derive(Clone, Copy)]
 pub struct Cursor {
     pub at: usize,
 }
 
 // A field's number and the cursor past it; or a refusal's number and place.
-#[derive(Drop)]
+#[derive(Clone, Copy)]
 pub enum Field {
     Got(usize, Cursor),
     Refused(u8, usize),
 }
 
 // The same with a signed number.
-#[derive(Drop)]
+#[derive(Clone, Copy)]
 pub enum Signed {
     Got(i64, Cursor),
     Refused(u8, usize),

@@ -1,4 +1,6 @@
 // Where a clock stands in a sheet's bytes.
+#![tactic(auto)]
+
 ghost use Rattle.std.specs.Prelude.{◌≡◌};
 ghost use Rattle.field.specs.Field.{field_of};
 ghost use Rattle.field.specs.Read.{mapped};

@@ -1,4 +1,6 @@
 // Whether a pattern is inside an envelope.
+#![tactic(auto)]
+
 ghost use Rattle.std.specs.Prelude.{◌≡◌, ◌-◌, ◌<◌, ◌≤◌, length, drop, pos, ◌+ℤ◌, ◌≤ℤ◌};
 ghost use Rattle.envelope.specs.Envelope.{Taken};
 ghost use Rattle.judging.specs.declared.Judged.TheVariants.{Sound};
@@ -11,7 +13,7 @@ use envelope::Envelope;
 pub const LONGEST: usize = 4_096;
 
 // n*i - l*j past a pattern that is inside, or a refusal's number and place.
-#[derive(Drop)]
+#[derive(Clone, Copy)]
 pub enum Judged {
     Sound(i64),
     Unsound(u8, usize),

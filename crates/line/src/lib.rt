@@ -1,4 +1,6 @@
 // Text in a lent buffer: each function puts its bytes from `at` on, and answers the place past them.
+#![tactic(auto)]
+
 ghost use Rattle.std.specs.Prelude.{◌≡◌};
 ghost use Rattle.line.specs.Text.{out_of, put_one, put_field, put_line, Put, digits, decimal, outcome_fields};
 

@@ -1,4 +1,6 @@
 // Links: the verdict on one, and its row.
+#![tactic(auto)]
+
 ghost use Rattle.std.specs.Prelude.{◌≡◌, nat_abs};
 ghost use Rattle.envelope.specs.Envelope.{Taken};
 ghost use Rattle.link.specs.Link.{size_of, early_of, Passes, verdict_of, verdict_number, size_in, state_of, open_size_of};
@@ -6,7 +8,7 @@ ghost use Rattle.link.specs.Link.{size_of, early_of, Passes, verdict_of, verdict
 use envelope::Envelope;
 
 // An accepted link carries its size in words, the others carry none.
-#[derive(Drop)]
+#[derive(Clone, Copy)]
 pub enum Verdict {
     Accepted(u64),
     Rates,
@@ -14,7 +16,7 @@ pub enum Verdict {
 }
 
 // A link's ends, its state (0 open, 1 closed) and its verdict.
-#[derive(Drop)]
+#[derive(Clone, Copy)]
 pub struct Row {
     pub producer: usize,
     pub consumer: usize,

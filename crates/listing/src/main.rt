@@ -1,4 +1,6 @@
 // Lists a sheet: standard input to standard output.
+#![tactic(auto)]
+
 ghost use Rattle.std.specs.Prelude.{◌≡◌, length};
 
 use report::Listed;

@@ -1,9 +1,11 @@
 // Numbers read from text: figures, zeros before them allowed, and a minus sign before a negative one.
+#![tactic(auto)]
+
 ghost use Rattle.std.specs.Prelude.{◌≡◌};
 ghost use Rattle.numeral.specs.Number.{figure_then, natural_of, positive, negative, whole_of};
 
 // The number, that the text is none, or that it doesn't fit 64 bits.
-#[derive(Drop)]
+#[derive(Clone, Copy)]
 pub enum Number {
     Is(u64),
     NotANumber,
@@ -11,7 +13,7 @@ pub enum Number {
 }
 
 // The same for a number of either sign.
-#[derive(Drop)]
+#[derive(Clone, Copy)]
 pub enum SignedNumber {
     Is(i64),
     NotANumber,

@@ -1,4 +1,6 @@
 // Patterns of an envelope: check one, write the first, go to the next.
+#![tactic(auto)]
+
 ghost use Rattle.std.specs.Prelude.{◌≡◌, ◌++◌, ◌-◌, ◌≤◌, ◌<◌, pos, length, take};
 ghost use Rattle.envelope.specs.Envelope.{numbers, Taken};
 ghost use Rattle.judging.specs.Bytes.{longest, plain};
@@ -10,7 +12,7 @@ use envelope::Envelope;
 use judging::Judged;
 
 // What an entry point answers: a refusal has its number and its place.
-#[derive(Drop)]
+#[derive(Clone, Copy)]
 pub enum Answer {
     Inside,
     Done,
@@ -19,7 +21,7 @@ pub enum Answer {
 }
 
 // The last 0 that could be a 1: its place, plus one, and n*i - l*j there.
-#[derive(Drop)]
+#[derive(Clone, Copy)]
 struct Lift {
     place: usize,
     offset: i64,

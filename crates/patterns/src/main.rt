@@ -1,4 +1,6 @@
 // Prints the patterns of an envelope, one to a line, from the first on: patterns k K l n LENGTH [COUNT]
+#![tactic(auto)]
+
 ghost use Rattle.std.specs.Prelude.{◌+◌, ◌≤◌, length};
 ghost use Rattle.patterns.specs.Room.{Leaves};
 
@@ -9,7 +11,7 @@ use pattern::Answer;
 const TOO_LONG: usize = 4_097;
 
 // The place past the lines in the buffer, or that they could not be written.
-#[derive(Drop)]
+#[derive(Clone, Copy)]
 enum Place {
     At(usize),
     Failed,

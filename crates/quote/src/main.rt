@@ -1,4 +1,6 @@
 // Prints the expression of a clock in hexadecimal: quote FILE CLOCK
+#![tactic(auto)]
+
 ghost use Rattle.std.specs.Prelude.{◌≡◌, ◌≤◌, length};
 
 use numeral::Number;

@@ -1,4 +1,6 @@
 // Reads a design sheet once from left to right: words, clocks and links as sections of rows, each left in its table.
+#![tactic(auto)]
+
 ghost use Rattle.std.specs.Prelude.{◌≡◌, [], ◌+◌, ◌*◌, ◌≤◌, ◌<◌, length};
 ghost use Rattle.expression.specs.Inner.Nodes.{HoldsNodes, nodes_in};
 ghost use Rattle.sheet.specs.Sheet.{clocks_most, links_most};
@@ -47,7 +49,7 @@ fn read_words(start: Cursor, s: &[u8], table: &mut [i32]) -> Field
 }
 
 // A clock's state and node, and the cursor past it; or a refusal's number and place.
-#[derive(Drop)]
+#[derive(Clone, Copy)]
 pub enum Marked {
     Got(u8, Node, Cursor),
     Refused(u8, usize),
@@ -116,7 +118,7 @@ fn read_clocks(
 }
 
 // A link's ends and the cursor past it; or a refusal's number and place.
-#[derive(Drop)]
+#[derive(Clone, Copy)]
 enum Ends {
     Got(usize, usize, Cursor),
     Refused(u8, usize),
@@ -163,14 +165,14 @@ fn read_links(start: Cursor, s: &[u8], n: usize, ends: &mut [u8]) -> Field
 }
 
 // What a sheet that was read holds: how many clocks and links, and where the clocks' rows begin.
-#[derive(Drop)]
+#[derive(Clone, Copy)]
 pub struct Found {
     pub clocks: usize,
     pub links: usize,
     pub clockrows: usize,
 }
 
-#[derive(Drop)]
+#[derive(Clone, Copy)]
 pub enum Reading {
     Got(Found),
     Refused(u8, usize),

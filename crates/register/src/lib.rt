@@ -1,11 +1,13 @@
 // Closing a clock, and quoting its expression.
+#![tactic(auto)]
+
 ghost use Rattle.register.specs.Closing.{Closes};
 ghost use Rattle.register.specs.Quoting.{Quotes, RepliesTo};
 
 use field::Field;
 
 // What closing a clock answers: the place of the byte that it turned; or a refusal's number and place.
-#[derive(Drop)]
+#[derive(Clone, Copy)]
 pub enum Closing {
     Closed(usize),
     Refused(u8, usize),
@@ -43,7 +45,7 @@ pub fn quote(sheet: &[u8], clock: usize) -> &[u8]
 }
 
 // What quoting a clock answers beside the part itself: a refusal's number and place, or 0 and 0.
-#[derive(Drop)]
+#[derive(Clone, Copy)]
 pub struct QuoteReply {
     pub number: u8,
     pub place: usize,

@@ -1,4 +1,5 @@
 // The numbers of document 01's replies, each written once. specs/Numbers.antt has their meaning and their places.
+#![tactic(auto)]
 
 pub const MISSING: u8 = 1;
 

@@ -1,4 +1,6 @@
 // The listing of a sheet: its text in a lent buffer, byte for byte document 01's.
+#![tactic(auto)]
+
 ghost use Rattle.std.specs.Prelude.{◌≡◌, ◌≤◌, leb, length};
 ghost use Rattle.line.specs.Text.{out_of, put_field, put_fields, put_line, Put};
 ghost use Rattle.expression.specs.Inner.Nodes.{nodes_in};
@@ -94,7 +96,7 @@ fn put_clocks(out: &mut [u8], start: usize, table: &[i32], states: &[u8]) -> usi
 }
 
 // The place past the links' lines, and both rooms.
-#[derive(Drop)]
+#[derive(Clone, Copy)]
 struct Summed {
     past: usize,
     rooms: Rooms,
@@ -135,7 +137,7 @@ fn put_sheet(out: &mut [u8], table: &[i32], states: &[u8], ends: &[u8], n: usize
 }
 
 // The length of the text, or a refusal's number and place: a buffer that is too short is one too. Only where the text fits is anything written.
-#[derive(Drop)]
+#[derive(Clone, Copy)]
 pub enum Listed {
     Text(usize),
     Refused(u8, usize),

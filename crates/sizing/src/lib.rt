@@ -1,4 +1,6 @@
 // Works a sheet out: the links' rows from the tables that reading left, and both rooms.
+#![tactic(auto)]
+
 ghost use Rattle.std.specs.Prelude.{◌≡◌, [], ◌++◌, ℕ, ◌+◌, ◌*◌, ◌≤◌, ◌<◌, length, drop};
 ghost use Rattle.std.proofs.lemmas.List.Edits.{sets};
 ghost use Rattle.link.specs.Link.{size_in};
@@ -82,7 +84,7 @@ fn store_row(r: Row, list: &mut [i64], i: usize)
 }
 
 // The sums of sizes over accepted links: open ones, and all.
-#[derive(Drop)]
+#[derive(Clone, Copy)]
 pub struct Rooms {
     pub opened: u64,
     pub whole: u64,
@@ -129,7 +131,7 @@ fn fill_links(clocks: &[i32], states: &[u8], ends: &[u8], n: usize, list: &mut [
 }
 
 // What working a sheet out answers: a refusal's number and place, or 0 and 0, both counts and both rooms.
-#[derive(Drop)]
+#[derive(Clone, Copy)]
 pub struct Reply {
     pub number: u8,
     pub place: usize,

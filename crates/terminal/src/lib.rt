@@ -1,4 +1,6 @@
 // What the programs share: their arguments, whole inputs, lines for standard output, complaints.
+#![tactic(auto)]
+
 mod argument;
 mod complaint;
 mod input;

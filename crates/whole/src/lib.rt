@@ -1,4 +1,6 @@
 // Whole numbers: division with its rounding, the larger and the smaller of two, how far one is from 0, and Euclid's method.
+#![tactic(auto)]
+
 ghost use Rattle.std.specs.Prelude.{◌≡◌, ◌<◌, ◌^◌, nat_abs};
 ghost use Rattle.whole.specs.Rounding.{floor_div, ceil_div};
 ghost use Rattle.whole.specs.Order.{larger, smaller};

@@ -1,4 +1,6 @@
 // Words: their bits, read one by one, and their envelopes.
+#![tactic(auto)]
+
 ghost use Rattle.std.specs.Prelude.{◌≡◌, ◌-◌, ◌*◌, ◌≤◌, ◌<◌, pos, ◌-ℤ◌, length, take, drop};
 ghost use Rattle.envelope.specs.Word.{bit_at, ones_in, word_of};
 ghost use Rattle.word.specs.Inner.Span.{including_of, span_of};
@@ -25,7 +27,7 @@ fn offset(n: u64, t: u64, l: u64, j: u64) -> i64
 }
 
 // The smallest and the largest of some numbers.
-#[derive(Drop)]
+#[derive(Clone, Copy)]
 pub struct Span {
     pub k: i64,
     pub K: i64,
