@@ -173,7 +173,7 @@ demand_2 =
             h.links_are ∙ ap (λ (a : Read SheetRead). links_out a links) w,
           );
       listing = listing_fits;
-      listing_most_lem = λ s bytes o p. (listing s).most bytes o (length s) (read s o p);
+      listing_within = λ s bytes o p. (listing s).most bytes o (length s) (read s o p);
       closing = closes;
       any_set = any_set;
       any_order = any_order;

@@ -132,7 +132,7 @@ pub record Demand2 : Type 0 where
   -- and what is listed, into a buffer that has room; no listing is longer than 18,463 bytes
   pub listing : (s : List ℕ) (o : SheetRead) → Passed s o → (t u : List ℕ) (r : Listed) → ListsInto s t r u → length (sheet_text o) ≤ length t
       → (r ≡ Listed.Text (length (sheet_text o))) × (u ≡ sheet_text o ++ drop (length (sheet_text o)) t)
-  pub listing_most_lem : (s : List ℕ) → AllBytes s → (o : SheetRead) → Passed s o → length (sheet_text o) ≤ 18_463
+  pub listing_within : (s : List ℕ) → AllBytes s → (o : SheetRead) → Passed s o → length (sheet_text o) ≤ 18_463
   -- "Closing a clock alters one mark in the sheet and no envelope, verdict, size or whole total": where the reply is 0, at its place
   pub closing : (s : List ℕ) → AllBytes s → (i : ℕ) (r : Closing) (t : List ℕ) → Closes s i r t → closing_number r ≡ 0 → (o : SheetRead) → Passed s o → OneClosed s i o (closing_place r) t
   -- any set of clocks, in any order

@@ -39,7 +39,7 @@ normal_limits k K l n f =
     let c = ceil_keeps k g 1_000_000_000 (gcd_pos l n f.n_least) s.k_least s.k_most in
     let d = floor_keeps K g 1_000_000_000 s.K_least s.K_most in
     result_limits _ _ _ _
-    (record { l_most_lem = omega (arith, div-le_self l g, s.l_most_lem); k_least = c.0; k_most = c.1; K_least = d.0; K_most = d.1 })
+    (record { l_within = omega (arith, div-le_self l g, s.l_within); k_least = c.0; k_most = c.1; K_least = d.0; K_most = d.1 })
 
 pub normal_n : (k K : ℤ) (l n : ℕ) → Fields k K l n → (1 ≤ (normal_of k K l n).n) × ((normal_of k K l n).n ≤ (normal_of k K l n).l)
 normal_n k K l n f = (normal_n_least k K l n f.n_least, normal_n_most k K l n f.n_least f.n_most)

@@ -49,7 +49,7 @@ module _ (e : Envelope) (h : Limits e) where
   K_held = to_z-of_z K_fits
 
   pub l_held : to_z w64 e.l ≡ pos e.l
-  l_held = small_held e.l h.l_most_lem
+  l_held = small_held e.l h.l_within
 
   -- K keeps to the limits of k
   pub K_within : (lower_least ≤ℤ to_z w64 (of_z w64 e.K)) × (to_z w64 (of_z w64 e.K) ≤ℤ lower_most)
@@ -57,7 +57,7 @@ module _ (e : Envelope) (h : Limits e) where
 
 module _ (e : Envelope) (t : Taken e) where
   pub n_small : e.n ≤ l_most
-  n_small = omega (arith, t.n_most, t.limits.l_most_lem)
+  n_small = omega (arith, t.n_most, t.limits.l_within)
 
   pub n_held : to_z w64 e.n ≡ pos e.n
   n_held = small_held e.n n_small

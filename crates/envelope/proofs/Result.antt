@@ -54,7 +54,7 @@ module _ (k K : ℤ) (l n : ℕ) where
   pub result_limits : Limits (numbers k K l n) → Limits (result_of k K l n)
   result_limits m =
       by_start Limits
-      (λ h. record { l_most_lem = m.l_most_lem; k_least = record { le = tt }; k_most = record { le = tt }; K_least = m.K_least; K_most = m.K_most })
+      (λ h. record { l_within = m.l_within; k_least = record { le = tt }; k_most = record { le = tt }; K_least = m.K_least; K_most = m.K_most })
       (λ h. m)
 
   pub result_rate_one : (result_of k K l n).l ≡ 1 → (result_of k K l n).n ≡ 1 → pos 0 ≤ℤ (result_of k K l n).k

@@ -61,7 +61,7 @@ declared_taken k K l n f r =
       n_most = normal_n_most k K l n f.n_least f.n_most;
       limits = normal_limits k K l n f;
       room = r;
-      rate_one_lem = normal_rate_one k K l n;
+      at_rate_one = normal_rate_one k K l n;
     }
 
 -- ---- not
@@ -97,7 +97,7 @@ module _ (e : Envelope) (t : Taken e) (h : e.n < e.l) where
         n_most = omega (arith, not_n, not_l);
         limits = m;
         room = has_room_lem b.0 (not_of e) least not_normal (has_lies b.0 _ (not_of e) b.1 (not_keeps a.0 e h a.1));
-        rate_one_lem = not_rate_one;
+        at_rate_one = not_rate_one;
       }
 
 -- ---- on
@@ -119,7 +119,7 @@ module _ (e f : Envelope) (s : Taken e) (t : Taken f) where
         n_most = normal_n_most _ _ _ _ some_ones (mul-le-mul s.n_most t.n_most);
         limits = m;
         room = has_room_lem c.0 (on_of e f) least norm (has_lies c.0 _ (on_of e f) c.1 (on_keeps a.0.bit b.0.bit e f some_ones a.1 b.1));
-        rate_one_lem = normal_rate_one _ _ _ _;
+        at_rate_one = normal_rate_one _ _ _ _;
       }
 
 -- ---- words
@@ -217,7 +217,7 @@ module _ (u v : List ℕ) (h : LegalWord u v) where
       let s = near (smallest xs) (small_in here) in
       let t = near (largest xs) (large_in here) in
       record {
-        l_most_lem = omega (arith, l_small);
+        l_within = omega (arith, l_small);
         k_least = omega (arith, orders, s);
         k_most = omega (arith, orders, s);
         K_least = least_upper;
@@ -246,5 +246,5 @@ module _ (u v : List ℕ) (h : LegalWord u v) where
         n_most = omega (arith, word_n, word_l, n_most);
         limits = word_limits;
         room = has_room_lem s.0 (word_of u v) least word_normal (has_lies s.0 _ (word_of u v) s.1 (word_keeps u v h.a_one));
-        rate_one_lem = word_rate_one;
+        at_rate_one = word_rate_one;
       }

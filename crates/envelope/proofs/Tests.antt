@@ -77,7 +77,7 @@ module _ (e : Envelope) where
       let K₀ = both_true _ (le_z upper_least e.K) K.0 in
       let k = both_true (le_z lower_least e.k) (le_z e.k lower_most) K₀.0 in
       record {
-        l_most_lem = leb-true e.l l_most l.1;
+        l_within = leb-true e.l l_most l.1;
         k_least = shown _ _ k.0;
         k_most = shown _ _ k.1;
         K_least = shown _ _ K₀.1;
@@ -87,7 +87,7 @@ module _ (e : Envelope) where
   limits_within : Limits e → within_limits e ≡ true
   unfolding within_limits
   limits_within h =
-      rw (met _ _ h.k_least, met _ _ h.k_most, met _ _ h.K_least, met _ _ h.K_most) (le-leb _ _ h.l_most_lem)
+      rw (met _ _ h.k_least, met _ _ h.k_most, met _ _ h.K_least, met _ _ h.K_most) (le-leb _ _ h.l_within)
 
   -- the room
   pub room_true : has_room e ≡ true → Room e
@@ -113,10 +113,10 @@ module _ (e : Envelope) where
         n_most = leb-true _ _ n.1;
         limits = within_limits_lem m.0;
         room = room_true r.1;
-        rate_one_lem = not_before e.k e.l e.n (not_true _ s.1);
+        at_rate_one = not_before e.k e.l e.n (not_true _ s.1);
       }
 
   pub taken_is : Taken e → is_taken e ≡ true
   unfolding is_taken
   taken_is t =
-      rw (limits_within t.limits, le-leb _ _ t.n_least, le-leb _ _ t.n_most, true_room t.room, eq-eqb _ _ t.normal, in_time e.k e.l e.n t.rate_one_lem) refl
+      rw (limits_within t.limits, le-leb _ _ t.n_least, le-leb _ _ t.n_most, true_room t.room, eq-eqb _ _ t.normal, in_time e.k e.l e.n t.at_rate_one) refl

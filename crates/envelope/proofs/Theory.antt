@@ -26,11 +26,11 @@ holds =
       result = λ k K l n s. (result_keeps k K l n s.bit, keeps_result k K l n s.bit);
       declared = λ k K l n h s. (normal_keeps k K l n h s.bit, keeps_normal k K l n h s.bit);
       not = λ e h a s p b. has_lies s _ (not_of e) b (not_keeps a e h p);
-      not_stream_lem = λ e h a p. not_stream a e h p;
+      not_is_stream = λ e h a p. not_stream a e h p;
       on = λ e f s t a b c p q h. has_lies c _ (on_of e f) h (on_keeps a.bit b.bit e f (mul-pos s.n_least t.n_least) p q);
-      on_stream_lem = on_stream;
+      on_is_stream = on_stream;
       word = λ u v h s b. has_lies s _ (word_of u v) b (word_keeps u v h);
-      word_stream_lem = word_stream;
+      word_is_stream = word_stream;
     }
 
 pub accepted : Accepted

@@ -17,7 +17,7 @@ Normal e = gcd_of e.l e.n ≡ 1
 
 -- l, k and K are within their limits
 pub record Limits (e : Envelope) : Type 0 where
-  pub l_most_lem : e.l ≤ l_most
+  pub l_within : e.l ≤ l_most
   pub k_least : lower_least ≤ℤ e.k
   pub k_most : e.k ≤ℤ lower_most
   pub K_least : upper_least ≤ℤ e.K
@@ -43,7 +43,7 @@ pub record Taken (e : Envelope) : Type 0 where
   pub n_most : e.n ≤ e.l
   pub limits : Limits e
   pub room : Room e
-  pub rate_one_lem : e.l ≡ 1 → e.n ≡ 1 → pos 0 ≤ℤ e.k
+  pub at_rate_one : e.l ≡ 1 → e.n ≡ 1 → pos 0 ≤ℤ e.k
 
 -- "A stream can't start before position 0": whether "l = n = 1 and k below 0"
 unfoldable pub before_start : ℤ → ℕ → ℕ → Bool

@@ -24,11 +24,11 @@ pub record Holds : Type 0 where
   -- declared: made normal without losing or gaining a stream
   pub declared : (k K : ℤ) (l n : ℕ) → 1 ≤ n → (s : Stream) → Within s.bit k K l n ↔ Lies s (normal_of k K l n)
   pub not : (e : Envelope) → e.n < e.l → (a s : Stream) → Lies a e → Has s (not_bits a.bit) → Lies s (not_of e)
-  pub not_stream_lem : (e : Envelope) → e.n < e.l → (a : Stream) → Lies a e → (s : Stream) × Has s (not_bits a.bit)
+  pub not_is_stream : (e : Envelope) → e.n < e.l → (a : Stream) → Lies a e → (s : Stream) × Has s (not_bits a.bit)
   pub on : (e f : Envelope) → Taken e → Taken f → (a b s : Stream) → Lies a e → Lies b f → Has s (on_bits a.bit b.bit) → Lies s (on_of e f)
-  pub on_stream_lem : (a b : Stream) → (s : Stream) × Has s (on_bits a.bit b.bit)
+  pub on_is_stream : (a b : Stream) → (s : Stream) × Has s (on_bits a.bit b.bit)
   pub word : (u v : List ℕ) → 1 ≤ ones_in v → (s : Stream) → Has s (word_bit u v) → Lies s (word_of u v)
-  pub word_stream_lem : (u v : List ℕ) → 1 ≤ ones_in v → (s : Stream) × Has s (word_bit u v)
+  pub word_is_stream : (u v : List ℕ) → 1 ≤ ones_in v → (s : Stream) × Has s (word_bit u v)
 
 -- which results are taken and normal, and with nothing else to test
 pub record Accepted : Type 0 where

@@ -65,8 +65,8 @@ module _ (s : List ℕ) where
       let s₃ = split (bytes_of 4 l) (bytes_of 4 n) s₂.2 in
       let f₁ = signed_in_got s lower_least lower_most (suc a) k s₁.0 (omega (arith, orders)) (omega (arith, orders)) m.k_least m.k_most s₁.1 in
       let f₂ = signed_in_got s upper_least upper_most s₁.0 K s₂.0 (omega (arith, orders)) (omega (arith, orders)) m.K_least m.K_most s₂.1 in
-      let f₃ = field_in_got s 4 1 (l_most + 1) beyond s₂.0 l s₃.0 (omega (arith, t.n_least, t.n_most)) (omega (arith, m.l_most_lem)) (omega (arith, limit4, m.l_most_lem)) s₃.1 in
-      let f₄ = field_in_got s 4 1 (l + 1) beyond s₃.0 n c t.n_least (omega (arith, t.n_most)) (omega (arith, limit4, t.n_most, m.l_most_lem)) s₃.2 in
+      let f₃ = field_in_got s 4 1 (l_most + 1) beyond s₂.0 l s₃.0 (omega (arith, t.n_least, t.n_most)) (omega (arith, m.l_within)) (omega (arith, limit4, m.l_within)) s₃.1 in
+      let f₄ = field_in_got s 4 1 (l + 1) beyond s₃.0 n c t.n_least (omega (arith, t.n_most)) (omega (arith, limit4, t.n_most, m.l_within)) s₃.2 in
       rw (
         signed_run lower_least lower_most s (suc a) ∙ f₁,
         signed_run upper_least upper_most s s₁.0 ∙ f₂,

@@ -71,7 +71,7 @@ fields_kept_lem k K l n h =
     let a = between_z_true lower_least lower_most k p.0 in
     let b = between_z_true upper_least upper_most K q.0 in
     record {
-      limits = record { l_most_lem = leb-true l l_most r.0; k_least = a.0; k_most = a.1; K_least = b.0; K_most = b.1 };
+      limits = record { l_within = leb-true l l_most r.0; k_least = a.0; k_most = a.1; K_least = b.0; K_most = b.1 };
       n_least = leb-true 1 n t.0;
       n_most = leb-true n l t.1;
     }

@@ -26,7 +26,7 @@ module _ (k K : ℤ) (l n : ℕ) where
       rw (
         between_z_holds lower_least lower_most k m.k_least m.k_most,
         between_z_holds upper_least upper_most K m.K_least m.K_most,
-        le-leb l l_most m.l_most_lem,
+        le-leb l l_most m.l_within,
         le-leb 1 n f.n_least,
         le-leb n l f.n_most,
       )
@@ -51,7 +51,7 @@ module _ (k K : ℤ) (l n : ℕ) where
         let f = field_in_passed 4 1 (l_most + 1) beyond s a₂ l a₃ l_read in
         let g = field_in_passed 4 1 (l + 1) beyond s a₃ n a₄ n_read in
         record {
-          limits = record { l_most_lem = omega (arith, f.1); k_least = p.0; k_most = p.1; K_least = q.0; K_most = q.1 };
+          limits = record { l_within = omega (arith, f.1); k_least = p.0; k_most = p.1; K_least = q.0; K_most = q.1 };
           n_least = g.0;
           n_most = omega (arith, g.1);
         }

@@ -28,8 +28,8 @@ range_fits w c hw hc (declared k K l n) r =
     let m = r.limits in (
       record { least = omega (arith, orders, m.k_least); most = omega (arith, orders, m.k_most) },
       record { least = omega (arith, orders, m.K_least); most = omega (arith, orders, m.K_most) },
-      omega (arith, limit4, m.l_most_lem),
-      omega (arith, limit4, m.l_most_lem, r.n_most),
+      omega (arith, limit4, m.l_within),
+      omega (arith, limit4, m.l_within, r.n_most),
     )
 range_fits w c hw hc (negated x) r = range_fits w c hw hc x r
 range_fits w c hw hc (on x y) r = (range_fits w c hw hc x r.0, range_fits w c hw hc y r.1)

@@ -55,10 +55,10 @@ near_more i m d h v = let r = near_reads i d v in near_shows m d (omega arith) (
 
 -- a step is at most this long
 pub step_near : (e : Envelope) → Taken e → (b : ℕ) → (up (step_of e b) ≤ l_most) × (down (step_of e b) ≤ l_most)
-step_near e t zero = (omega (arith, t.n_most, t.limits.l_most_lem), omega arith)
+step_near e t zero = (omega (arith, t.n_most, t.limits.l_within), omega arith)
 step_near e t (suc b) = (
-  omega (arith, up_diff_le (pos e.n) (pos e.l), t.n_most, t.limits.l_most_lem),
-  omega (arith, down_diff_le (pos e.n) (pos e.l), t.limits.l_most_lem),
+  omega (arith, up_diff_le (pos e.n) (pos e.l), t.n_most, t.limits.l_within),
+  omega (arith, down_diff_le (pos e.n) (pos e.l), t.limits.l_within),
 )
 
 pub near_on : (e : Envelope) → Taken e → (i : ℕ) (d : ℤ) (b : ℕ) → Near i d → Near (suc i) (offset_after e d b)
@@ -71,7 +71,7 @@ near_on e t i d b v =
 
 -- ---- what the machine holds of an offset, and of the code's sums
 pub near_held : (i : ℕ) (d : ℤ) → i ≤ longest → Near i d → to_z w64 (of_z w64 d) ≡ d
-near_held i d h v = let r = near_reads i d v in to_z-of_z (sfits_small (omega arith))
+near_held i d h v = let r = near_reads i d v in to_z-of_z {w = w64} (sfits_small (omega arith))
 
 module _ (e : Envelope) (t : Taken e) (d : ℤ) (v : Near longest d) where
   pub on_fits : (b : ℕ) → SFits w64 (offset_after e d b)
@@ -126,7 +126,7 @@ step_fits e t b = let s = step_near e t b in sfits_small (omega arith)
 -- l times a bit
 pub product_most : (e : Envelope) → Taken e → (b : ℕ) → b ≤ 1 → e.l * b ≤ l_most
 product_most e t zero h = omega (arith, mul-zero e.l)
-product_most e t (suc zero) h = omega (arith, mul-one e.l, t.limits.l_most_lem)
+product_most e t (suc zero) h = omega (arith, mul-one e.l, t.limits.l_within)
 product_most e t (suc (suc b)) h = absurd (omega arith)
 
 pub step_is : (e : Envelope) (b : ℕ) → b ≤ 1 → pos e.n -ℤ pos (e.l * b) ≡ step_of e b

@@ -62,7 +62,7 @@ module _ (e : Envelope) where
     pub room_small : (room : ℕ) → pos room +ℤ floor_of e ≡ e.K → room ≤ 2_001_000_000
     room_small room top =
         omega
-        (arith, sum (pos room) (floor_of e), sum e.k (step_of e 1), diff (pos e.n) (pos e.l), ap up top, ap down top, taken.limits.l_most_lem, k_down e taken.limits, k_up e taken.limits, K_up e taken.limits, K_down e taken.limits)
+        (arith, sum (pos room) (floor_of e), sum e.k (step_of e 1), diff (pos e.n) (pos e.l), ap up top, ap down top, taken.limits.l_within, k_down e taken.limits, k_up e taken.limits, K_up e taken.limits, K_down e taken.limits)
 
 pub not_less : (x y : ℤ) → lt_z x y ≡ false → y ≤ℤ x
 not_less x y q = ≤ℤ-shows (omega (arith, lt_z_false x y q))

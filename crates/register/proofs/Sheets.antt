@@ -54,13 +54,13 @@ module _ (t : ℕ → Bool) where
   close_legal v l =
       let n : length (mark_clocks t v.clocks) ≡ length v.clocks = marks_length t v.clocks in
       record {
-        words_most_lem = l.words_most_lem;
-        clocks_most_lem = omega (arith, l.clocks_most_lem);
-        links_most_lem = l.links_most_lem;
+        words_within = l.words_within;
+        clocks_within = omega (arith, l.clocks_within);
+        links_within = l.links_within;
         words_legal = l.words_legal;
         clocks_legal = marks_rows t v.clocks l.clocks_legal;
         links_legal = subst (λ (m : ℕ). Each (λ xs l. LinkRow m l) [] v.links) (sym n) l.links_legal;
-        bytes_most_lem = omega (arith, l.bytes_most_lem, same_length v);
+        bytes_within = omega (arith, l.bytes_within, same_length v);
       }
 
   -- the bytes of the sheet with those clocks marked open it, with the same table

@@ -62,7 +62,7 @@ clock_most i state e h t =
     let few = length_most 2 i (omega arith) in
     let low = lower_most_lem e.k (k_up e t.limits) (k_down e t.limits) in
     let high = upper_most_lem e.K (K_up e t.limits) (K_down e t.limits) in
-    let long = length_most 6 e.l (omega (arith, t.limits.l_most_lem)) in
+    let long = length_most 6 e.l (omega (arith, t.limits.l_within)) in
     let ones = length_most 6 e.n (omega (arith, n_small e t)) in
     simp length-append (omega (arith, state_most state))
 
@@ -83,22 +83,22 @@ room_most opened whole h k =
     simp length-append (omega arith)
 
 -- ---- all of them
-clocks_most_lem : (i : ℕ) (ss : List ℕ) (xs : List Node) → AllTaken xs → i + length xs ≤ 1000 → length (clock_lines i ss xs) ≤ 56 * length xs
+clocks_within : (i : ℕ) (ss : List ℕ) (xs : List Node) → AllTaken xs → i + length xs ≤ 1000 → length (clock_lines i ss xs) ≤ 56 * length xs
 unfolding clock_lines
-clocks_most_lem i [] xs t h = omega arith
-clocks_most_lem i (state ∷ ss) [] t h = omega arith
-clocks_most_lem i (state ∷ ss) (x ∷ xs) t h =
+clocks_within i [] xs t h = omega arith
+clocks_within i (state ∷ ss) [] t h = omega arith
+clocks_within i (state ∷ ss) (x ∷ xs) t h =
     let one = clock_most i state x.envelope (omega arith) (t 0 x refl) in
-    let rest = clocks_most_lem (suc i) ss xs (λ j. t (suc j)) (omega arith) in
+    let rest = clocks_within (suc i) ss xs (λ j. t (suc j)) (omega arith) in
     simp length-append (omega arith)
 
 module _ (o : SheetRead) (t : AllTaken o.table) (m : ℕ) (few : m ≤ 1000) where
-  links_most_lem : (i : ℕ) (ks ls : List Link) → Each (λ xs l. LinkRow m l) ks ls → i + length ls ≤ 1000 → length (link_lines i (map (row_of o) ls)) ≤ 44 * length ls
+  links_within : (i : ℕ) (ks ls : List Link) → Each (λ xs l. LinkRow m l) ks ls → i + length ls ≤ 1000 → length (link_lines i (map (row_of o) ls)) ≤ 44 * length ls
   unfolding link_lines
-  links_most_lem i ks [] e h = omega arith
-  links_most_lem i ks (l ∷ ls) e h =
+  links_within i ks [] e h = omega arith
+  links_within i ks (l ∷ ls) e h =
       let one = link_most i (row_of o l) (omega arith) (omega (arith, e.0.producer_there)) (omega (arith, e.0.consumer_there)) (row_small o.table t l) in
-      let rest = links_most_lem (suc i) (ks ++ (l ∷ [])) ls e.1 (omega arith) in
+      let rest = links_within (suc i) (ks ++ (l ∷ [])) ls e.1 (omega arith) in
       simp length-append (omega arith)
 
   rooms_most : (ls : List Link) → (total (map open_size_of (map (row_of o) ls)) ≤ 3000000000 * length ls) × (total (map size_of_row (map (row_of o) ls)) ≤ 3000000000 * length ls)
@@ -110,14 +110,14 @@ module _ (o : SheetRead) (t : AllTaken o.table) (m : ℕ) (few : m ≤ 1000) whe
       let rest = rooms_most ls in
       (omega arith, omega arith)
 
-pub listing_most_lem : (s : List ℕ) → AllBytes s → (o : SheetRead) (c : ℕ) → read_sheet s ≡ got o c → length (sheet_text o) ≤ listing_most
+pub listing_within : (s : List ℕ) → AllBytes s → (o : SheetRead) (c : ℕ) → read_sheet s ≡ got o c → length (sheet_text o) ≤ listing_most
 unfolding whole_text
-listing_most_lem s bytes o c h =
+listing_within s bytes o c h =
     let g = sheet_reads s bytes o c h in
     let t = (served s bytes).taken o c h in
-    let few = g.legal.clocks_most_lem in
-    let clocks = clocks_most_lem 0 (map state_of_clock o.sheet.clocks) o.table t (omega (arith, g.worked.many)) in
-    let links = links_most_lem o t (length o.sheet.clocks) (omega arith) 0 [] o.sheet.links g.legal.links_legal (omega (arith, g.legal.links_most_lem)) in
+    let few = g.legal.clocks_within in
+    let clocks = clocks_within 0 (map state_of_clock o.sheet.clocks) o.table t (omega (arith, g.worked.many)) in
+    let links = links_within o t (length o.sheet.clocks) (omega arith) 0 [] o.sheet.links g.legal.links_legal (omega (arith, g.legal.links_within)) in
     let rooms = rooms_most o t (length o.sheet.clocks) (omega arith) o.sheet.links in
-    let room = room_most (total (map open_size_of (rows_of o))) (total (map size_of_row (rows_of o))) (omega (arith, g.legal.links_most_lem)) (omega (arith, g.legal.links_most_lem)) in
-    simp length-append (omega (arith, g.worked.many, g.legal.links_most_lem))
+    let room = room_most (total (map open_size_of (rows_of o))) (total (map size_of_row (rows_of o))) (omega (arith, g.legal.links_within)) (omega (arith, g.legal.links_within)) in
+    simp length-append (omega (arith, g.worked.many, g.legal.links_within))

@@ -15,7 +15,7 @@ use Rattle.sizing.specs.Rooms.{row_of, rows_of, open_room, whole_room}
 use Rattle.sizing.specs.WorkOut.{worked_of, clock_numbers, link_numbers, flatten}
 use Rattle.sizing.proofs.Written.{flatten_length}
 use Rattle.report.specs.Listing.{refused_line, whole_text, text_of, listing_of}
-use Rattle.report.proofs.Bound.{listing_most_lem}
+use Rattle.report.proofs.Bound.{listing_within}
 use Rattle.report.specs.Promise.{sheet_lines, Shows, Listing}
 
 module _ (s : List ℕ) where
@@ -51,6 +51,6 @@ module _ (s : List ℕ) where
       record {
         accepted = accepted;
         worked_out = λ clocks links o c h. rw h (shows clocks links o c (was_read (length clocks) (length links) o c h));
-        most = listing_most_lem s;
+        most = listing_within s;
         refused_only = refused_only;
       }

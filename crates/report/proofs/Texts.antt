@@ -26,7 +26,7 @@ use Rattle.report.specs.declared.Summed.{Summed}
 use Rattle.line.specs.Letters.{letters}
 use Rattle.report.specs.Listing.{room_fields, clock_lines, whole_text, sheet_text, listing_most, fitted_text, over, listed_of, text_after, ListsInto}
 use Rattle.report.specs.Inner.Parts.{LinksPut, table_text}
-use Rattle.report.proofs.Bound.{listing_most_lem}
+use Rattle.report.proofs.Bound.{listing_within}
 
 -- ---- a text that is no longer than the longest, put into a buffer
 module _ (t : List ℕ) (most : length t ≤ listing_most) where
@@ -70,7 +70,7 @@ module _ (s : List ℕ) where
         rw (links_is s bytes o c read f f_is t ss es tabled, table_is s bytes o c read f f_is t ss es tabled, states s bytes o c read f f_is t ss es tabled, rows_are o o.sheet.links)
 
     pub text_most : length read_text ≤ listing_most
-    text_most = subst (λ (x : List ℕ). length x ≤ listing_most) (sym text_is) (listing_most_lem s bytes o c read)
+    text_most = subst (λ (x : List ℕ). length x ≤ listing_most) (sym text_is) (listing_within s bytes o c read)
 
     pub listed_good : (text text' : List ℕ) (r : Listed) → (r ≡ fitted_text read_text (length text)) × (text' ≡ over read_text text) → ListsInto s text r text'
     unfolding listed_of text_after

@@ -29,7 +29,7 @@ pub record Tie (s : List ℕ) : Type 0 where
 -- a text that is right up to a clock k: the words, a count, the clocks before k with their nodes xs, then k, and any bytes
 pub record UpTo (s : List ℕ) (words : List Word) (clocks : List Clock) (xs : List Node) (k : Clock) : Type 0 where
   pub short_enough : length s ≤ bytes_most
-  pub words_most_lem : length words ≤ words_most
+  pub words_within : length words ≤ words_most
   pub words_legal : Every WordRow words
   pub count : ℕ
   pub count_most : count ≤ clocks_most

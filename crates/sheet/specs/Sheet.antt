@@ -71,10 +71,10 @@ pub record LinkRow (n : ℕ) (l : Link) : Type 0 where
   pub consumer_there : l.consumer < n
 
 pub record Legal (v : Sheet) : Type 0 where
-  pub words_most_lem : length v.words ≤ words_most
-  pub clocks_most_lem : length v.clocks ≤ clocks_most
-  pub links_most_lem : length v.links ≤ links_most
+  pub words_within : length v.words ≤ words_most
+  pub clocks_within : length v.clocks ≤ clocks_most
+  pub links_within : length v.links ≤ links_most
   pub words_legal : Every WordRow v.words
   pub clocks_legal : Every ClockRow v.clocks
   pub links_legal : Each (λ xs l. LinkRow (length v.clocks) l) [] v.links
-  pub bytes_most_lem : length (spell_sheet v) ≤ bytes_most
+  pub bytes_within : length (spell_sheet v) ≤ bytes_most

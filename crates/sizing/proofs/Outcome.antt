@@ -70,10 +70,10 @@ module _ (s : List ℕ) (bytes : AllBytes s) (o : SheetRead) (c : ℕ) (read : r
   opens = sheet_reads s bytes o c read
 
   few_clocks : length o.table ≤ clocks_most
-  few_clocks = omega (arith, opens.legal.clocks_most_lem, opens.worked.many)
+  few_clocks = omega (arith, opens.legal.clocks_within, opens.worked.many)
 
   few_links : length o.sheet.links ≤ links_most
-  few_links = opens.legal.links_most_lem
+  few_links = opens.legal.links_within
 
 -- ---- a clock's mark is its state in the table
 state_at : (cs : List Clock) (i : ℕ) → get_or (map state_of_clock cs) i 0 ≡ state_in (get_elem? cs i)

@@ -78,7 +78,7 @@ module _ (s : List ℕ) where
       let bz = subst (λ (t : List ℕ). Bytes s b₂.0 t b₃.0) (ap (rows spell_clock) (sym p) ∙ rows_map spell_clock clock_of zs) b₃.1 in
       let place : suc b₃.0 ≡ expr_place words clocks = omega (arith, (end b₁.1).0, (end b₂.1).0, (end b₃.1).0, bytes_of_length 2 u.count) in
       short_enough s u.short_enough
-      ∙ rows_to_fault words zs k number m b₁.0 b₂.0 b₃.0 b₄.0 u.words_most_lem u.words_legal (omega (arith, u.count_most)) (worked_rows words clocks xs u.worked u.clocks_legal)
+      ∙ rows_to_fault words zs k number m b₁.0 b₂.0 b₃.0 b₄.0 u.words_within u.words_legal (omega (arith, u.count_most)) (worked_rows words clocks xs u.worked u.clocks_legal)
       u.clock_legal (rw n at i) (ap (λ (ys : List Node). evaluate ws ys k.expr) q ∙ v) b₁.1 bn bz b₄.1
       ∙ ap₂ {C = Read SheetRead} (λ (a : ℕ) (ys : List Node). refused number (a + blame ws ys k.expr)) place q
 

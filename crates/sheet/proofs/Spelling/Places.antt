@@ -102,7 +102,7 @@ module _ (s : List ℕ) (o : SheetRead) (c : ℕ) (opens : Opens s o c) where
   clocks_begin i h b d p =
       let n : length zs ≡ length o.sheet.clocks = sym (length-map zs clock_of) ∙ ap length same_clocks in
       let m : length (take i zs) ≡ i = omega (arith, length-take i zs) in
-      let few : length o.sheet.clocks ≤ indexes = omega (arith, opens.legal.clocks_most_lem) in
+      let few : length o.sheet.clocks ≤ indexes = omega (arith, opens.legal.clocks_within) in
       let r = rows_begin spell_row zs i p in
       let e : r.0 ≡ b + length (rows spell_clock (take i o.sheet.clocks)) =
       (end r.1).0
@@ -110,7 +110,7 @@ module _ (s : List ℕ) (o : SheetRead) (c : ℕ) (opens : Opens s o c) where
       let each : Each (ClockMade ws) [] (take i zs) =
       each_take (ClockMade ws) [] zs i (worked_rows o.sheet.words o.sheet.clocks o.table opens.worked opens.legal.clocks_legal) in
       let g : rows_at (clock_at s ws) (length (take i zs)) [] b ≡ got (take i zs) r.0 =
-      rows_read s (clock_at s ws) spell_row (ClockMade ws) (λ xs a k c l. clock_read s ws xs a c (few_words s o.sheet.words opens.legal.words_most_lem opens.legal.words_legal) l k) (take i zs) [] b r.0 (omega arith) each r.1 in
+      rows_read s (clock_at s ws) spell_row (ClockMade ws) (λ xs a k c l. clock_read s ws xs a c (few_words s o.sheet.words opens.legal.words_within opens.legal.words_legal) l k) (take i zs) [] b r.0 (omega arith) each r.1 in
       read_piece s (many (clock_row ws) i []) b (take i zs) _ (many_run s (clock_row ws) (clock_at s ws) (clock_run s ws) i [] b ∙ subst (λ (k : ℕ). rows_at (clock_at s ws) k [] b ≡ got (take i zs) r.0) m g ∙ ap (λ (k : ℕ). got (take i zs) k) e)
 
   pub clock_at_lem : (i : ℕ) → i ≤ length o.sheet.clocks → ClockAt s i (clock_place o.sheet i)
@@ -123,7 +123,7 @@ module _ (s : List ℕ) (o : SheetRead) (c : ℕ) (opens : Opens s o c) where
       let p = subst (λ (t : List ℕ). Bytes s b₃.0 t b₂.0) (ap (rows spell_clock) (sym same_clocks) ∙ rows_map spell_clock clock_of zs) b₃.2 in
       let w : Piece s (counted (λ xs. word_row) words_most) 0 o.sheet.words b₁.0 =
       read_piece s (counted (λ xs. word_row) words_most) 0 o.sheet.words b₁.0
-      (counted_run s (λ xs. word_row) (λ xs a. word_at s a) (λ xs a. word_run s a) words_most 0 ∙ words_read s o.sheet.words opens.legal.words_most_lem opens.legal.words_legal 0 b₁.0 b₁.1) in
+      (counted_run s (λ xs. word_row) (λ xs a. word_at s a) (λ xs a. word_run s a) words_most 0 ∙ words_read s o.sheet.words opens.legal.words_within opens.legal.words_legal 0 b₁.0 b₁.1) in
       let e : b₁.0 + 2 ≡ b₃.0 = omega (arith, end b₃.1, bytes_of_length 2 n) in
       let k : b₁.0 + 2 ≤ length s = omega (arith, end b₃.1, bytes_of_length 2 n) in
       let z : b₃.0 + length (rows spell_clock (take i o.sheet.clocks)) ≡ clock_place o.sheet i = omega (arith, end b₁.1, end b₃.1, bytes_of_length 2 n) in

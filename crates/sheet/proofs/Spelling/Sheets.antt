@@ -66,13 +66,13 @@ module _ (s : List ℕ) (bytes : AllBytes s) where
       let e : s ≡ spell_sheet v = whole_text_lem s (spell_sheet v) r₃.1 all k in
       let l : Legal v =
       record {
-        words_most_lem = b₁.0;
-        clocks_most_lem = omega (arith, b₂.0, e₂);
-        links_most_lem = b₃.0;
+        words_within = b₁.0;
+        clocks_within = omega (arith, b₂.0, e₂);
+        links_within = b₃.0;
         words_legal = each_every WordRow [] r₁.0 b₁.1;
         clocks_legal = rows_clocks r₁.0 r₂.0 [] b₂.1;
         links_legal = subst (λ (m : ℕ). Each (λ xs l. LinkRow m l) [] r₃.0) e₂ b₃.1;
-        bytes_most_lem = subst (λ (xs : List ℕ). length xs ≤ bytes_most) e most;
+        bytes_within = subst (λ (xs : List ℕ). length xs ≤ bytes_most) e most;
       } in
       same_got (λ (x : SheetRead) (d : ℕ). Opens s x d) p.1 (record { legal = l; worked = rows_worked r₁.0 r₂.0 b₂.1; bytes = e; end = k })
 
@@ -124,17 +124,17 @@ pub to_end : (s : List ℕ) (v : Sheet) (xs : List Node) (d c : ℕ) → Legal v
 unfolding spell_sheet
 to_end s v xs d c l w b =
     let n : ℕ = length v.clocks in
-    let m : n ≤ indexes = omega (arith, l.clocks_most_lem) in
+    let m : n ≤ indexes = omega (arith, l.clocks_within) in
     let b₁ = split (section spell_word v.words) _ b in
     let b₂ = split (section spell_clock v.clocks) _ b₁.2 in
     let f : section_at (link_at s n) links_most s b₂.0 ≡ got v.links c =
-    section_read s (link_at s n) spell_link (λ xs l. LinkRow n l) (λ xs a l c k. link_read s n xs a l c m) links_most b₂.0 v.links c (omega arith) l.links_most_lem l.links_legal b₂.2 in
-    to_links s v.words l.words_most_lem l.words_legal v.clocks xs d b₁.0 b₂.0 l.clocks_most_lem l.clocks_legal w b₁.1 b₂.1 ∙ rw f
+    section_read s (link_at s n) spell_link (λ xs l. LinkRow n l) (λ xs a l c k. link_read s n xs a l c m) links_most b₂.0 v.links c (omega arith) l.links_within l.links_legal b₂.2 in
+    to_links s v.words l.words_within l.words_legal v.clocks xs d b₁.0 b₂.0 l.clocks_within l.clocks_legal w b₁.1 b₂.1 ∙ rw f
 
 pub sheet_read : (v : Sheet) (xs : List Node) → Legal v → Worked v.words v.clocks xs → read_sheet (spell_sheet v) ≡ got (record { sheet = v; table = xs }) (length (spell_sheet v))
 sheet_read v xs l w =
     let s : List ℕ = spell_sheet v in
-    short_enough s l.bytes_most_lem ∙ to_end s v xs 0 (length s) l w (itself s []) ∙ rw (eq-eqb (length s) (length s) refl)
+    short_enough s l.bytes_within ∙ to_end s v xs 0 (length s) l w (itself s []) ∙ rw (eq-eqb (length s) (length s) refl)
 
 -- no two sheets that can be worked out are spelled the same
 pub one_sheet : (v u : Sheet) (xs ys : List Node) → Legal v → Legal u → Worked v.words v.clocks xs → Worked u.words u.clocks ys → spell_sheet v ≡ spell_sheet u
