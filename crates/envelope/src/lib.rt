@@ -106,7 +106,7 @@ impl Envelope {
     }
 
     // Whether some stream lies in it, if it is normal.
-    fn has_room_lem(self) -> bool
+    fn has_room(self) -> bool
         requires { Limits self × (1 ≤ self.n) × (self.n ≤ l_most) }
         ensures { result ≡ has_room self }
     {
@@ -123,7 +123,7 @@ impl Envelope {
         self.within_limits()
             && 1 <= self.n
             && self.n <= self.l
-            && self.has_room_lem()
+            && self.has_room()
             && whole::gcd(self.l, self.n) == 1
             && !Envelope::before_start(self.k, self.l, self.n)
     }
@@ -134,7 +134,7 @@ impl Envelope {
         ensures { result ≡ declared_of k K l n }
     {
         let e = Envelope::normal(k, K, l, n);
-        if e.has_room_lem() {
+        if e.has_room() {
             return Made::Good(Node { envelope: e });
         }
         Made::Empty
