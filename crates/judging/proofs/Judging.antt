@@ -1,6 +1,6 @@
 -- What `judge` has found, as what it answers.
 -- Assumes nothing.
-use Rattle.std.proofs.Common.{◌≡◌, ℕ, ◌-◌, ◌<◌, ◌≤◌, true, false, List, length, pos, arith, le-ltb, lt-ltb}
+use Rattle.std.proofs.Common.{◌≡◌, ℕ, ◌<◌, ◌≤◌, true, false, List, length, pos, arith, le-ltb, lt-ltb}
 use Rattle.reply.specs.Numbers.{no_envelope, long_pattern, not_a_bit}
 use Rattle.envelope.specs.declared.Envelope.{Envelope}
 use Rattle.envelope.specs.Inner.Tests.{is_taken}

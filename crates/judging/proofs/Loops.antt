@@ -1,6 +1,6 @@
 -- One turn of each loop, as a law on lists.
 -- Assumes nothing.
-use Rattle.std.proofs.Common.{◌≡◌, ℕ, zero, suc, ◌+◌, ◌-◌, ◌<◌, ◌≤◌, Bool, true, false, cond, ltb, leb, List, [], ◌∷◌, length, get_or, drop, ℤ, refl, ap, ◌∙◌, le_of_suc-le-suc, not-suc-le-zero, add-one, arith, drop-cons, w64, to_z, of_z, ltb-false, ltb-true, le-leb, leb-true}
+use Rattle.std.proofs.Common.{◌≡◌, ℕ, zero, suc, ◌+◌, ◌<◌, ◌≤◌, Bool, true, false, cond, ltb, leb, List, [], ◌∷◌, length, get_or, drop, ℤ, refl, ap, ◌∙◌, le_of_suc-le-suc, not-suc-le-zero, add-one, arith, drop-cons, w64, to_z, of_z, ltb-false, ltb-true, le-leb, leb-true}
 use borrow.Author.Tests.{lt-leb}
 use Rattle.reply.specs.Numbers.{outside}
 use Rattle.envelope.specs.declared.Envelope.{Envelope}

@@ -1,15 +1,14 @@
 -- `judging::height` meets its contract.
 -- Assumes nothing.
-use Rattle.std.proofs.Common.{◌≡◌, ◌*◌, ◌≤◌, drop, ℤ, pos, ◌+ℤ◌, ◌≤ℤ◌, sym, ap, ◌∙◌, subst, mul-le-mul, arith, to_z-of_z, w64, to_z, of_z, rules}
+use Rattle.std.proofs.Common.{◌≡◌, ◌*◌, ◌≤◌, drop, ℤ, pos, ◌+ℤ◌, ◌≤ℤ◌, sym, ap, ◌∙◌, subst, mul-le-mul, arith, to_z-of_z, w64, to_z, of_z}
 use Rattle.whole.proofs.Bridge.{sfits_small}
 use Rattle.whole.proofs.Machine.{held}
 use Rattle.envelope.specs.Limits.{l_most}
 use Rattle.envelope.proofs.Held.{n_small, K_held}
 use Rattle.judging.specs.Bytes.{longest}
-use Rattle.judging.specs.Inner.Scan.{Near, scanned, floor_of}
-use Rattle.judging.proofs.Offsets.{near_shows, floor_near}
+use Rattle.judging.specs.Inner.Scan.{scanned, floor_of}
 use Rattle.judging.proofs.Loops.{lead_length}
-use Rattle.judging.proofs.Sweeps.{lead_from, room_small, not_less, within_room}
+use Rattle.judging.proofs.Sweeps.{lead_from, not_less}
 use Rattle.judging.proofs.height.Goals as goal
 
 pub overflow_mul-start : goal.overflow_mul-start
@@ -38,7 +37,7 @@ returns c =
     let start_held : to_z w64 (c.args.e.n * c.leading-from.result) ≡ pos (c.args.e.n * c.leading-from.result) = held _ (omega (arith, small)) in
     let low_held : to_z w64 (of_z w64 c.args.low) ≡ floor_of c.args.e = to_z-of_z c.ranges.low ∙ c.requires.low_value.0 in
     let not_above : to_z w64 (c.args.e.n * c.leading-from.result) ≤ℤ c.args.e.K = subst (λ (z : ℤ). to_z w64 (c.args.e.n * c.leading-from.result) ≤ℤ z) (K_held c.args.e c.requires.taken.0.limits) (not_less _ _ c.if-e-start.false) in
-    let e = c.args.e in
+    λ h. let e = c.args.e in
     let p = c.args.pattern.now in
     let t = c.leading-from.result in
     let from : pos (e.n * t) ≡ pos c.above.result +ℤ floor_of e = sym (start_held) ∙ sym c.above.ensures ∙ ap (λ (z : ℤ). pos c.above.result +ℤ z) (low_held) in

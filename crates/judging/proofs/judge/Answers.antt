@@ -1,6 +1,6 @@
 -- `judging::judge` meets its contract.
 -- Assumes nothing.
-use Rattle.std.proofs.Common.{sym, ◌∙◌, arith, rules}
+use Rattle.std.proofs.Common.{sym, ◌∙◌, arith}
 use borrow.Author.Tests.{not-true, not-false}
 use Rattle.envelope.proofs.Tests.{is_taken_lem}
 use Rattle.judging.proofs.Judging.{judge_none, judge_long, judge_unbit, judge_scan}

@@ -1,9 +1,9 @@
 -- `judging::sweep` meets its contract. The loop's invariant: x is within the room, and what is scanned from there on is what is scanned from `from` on.
 -- Assumes nothing.
-use Rattle.std.proofs.Common.{◌≡◌, ◌-◌, ◌*◌, ◌<◌, ◌≤◌, length, get_or, drop, pos, ◌+ℤ◌, refl, ap, ◌∙◌, arith, drop_of_length-le}
+use Rattle.std.proofs.Common.{◌*◌, ◌<◌, ◌≤◌, length, get_or, pos, ◌+ℤ◌, ◌∙◌, arith}
 use Rattle.envelope.specs.Limits.{l_most}
 use Rattle.envelope.proofs.Held.{n_small}
-use Rattle.judging.specs.Inner.Scan.{scanned, floor_of}
+use Rattle.judging.specs.Inner.Scan.{floor_of}
 use Rattle.judging.proofs.Offsets.{product_most}
 use Rattle.judging.proofs.Loops.{plain_before, scan_turn}
 use Rattle.judging.proofs.Sweeps.{on_floor, may_floor, room_small, not_wrapped}
@@ -21,7 +21,7 @@ loop-i-preserved c =
     let y = c.wrapping_add_u64-x.result in
     let there = c.loop-i-test.true in
     let b = get_or p i 0 in
-    let on = not_wrapped y x c.wrapping_sub_u64-step.result (e.l * b) e.n c.wrapping_add_u64-x.ensures c.wrapping_sub_u64-step.ensures (omega (arith, small, c.if-room-x.false)) (omega (arith, small, c.loop-i.invariant.1)) (fall there) (n_small e c.requires.taken.0) in (
+    let on = not_wrapped y x c.wrapping_sub_u64-step.result (e.l * b) e.n c.wrapping_add_u64-x.ensures.value c.wrapping_sub_u64-step.ensures.value (omega (arith, small, c.if-room-x.false)) (omega (arith, small, c.loop-i.invariant.1)) (fall there) (n_small e c.requires.taken.0) in (
       omega arith,
       c.if-room-x.false,
       c.loop-i.invariant.2

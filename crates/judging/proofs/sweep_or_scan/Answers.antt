@@ -1,6 +1,6 @@
 -- `judging::sweep_or_scan` meets its contract.
 -- Assumes nothing.
-use Rattle.std.proofs.Common.{◌≡◌, ◌≤◌, ℤ, pos, ◌+ℤ◌, sym, ap, ◌∙◌, subst, arith, w64, SFits, to_z, of_z, rules}
+use Rattle.std.proofs.Common.{◌≡◌, ◌≤◌, ℤ, pos, ◌+ℤ◌, sym, ap, ◌∙◌, subst, arith, w64, SFits, to_z, of_z}
 use Rattle.whole.proofs.Bridge.{sfits_small, up_sum_le, down_sum_le}
 use Rattle.whole.proofs.Machine.{told, held, fits_by, back_by}
 use Rattle.envelope.proofs.Held.{K_held}
@@ -25,7 +25,7 @@ above-room-requires c =
 pub height-x-requires : goal.height-x-requires
 height-x-requires c =
     let low_held : to_z w64 (of_z w64 c.floor-low.result) ≡ floor_of c.args.e = told c.floor-low.result c.floor-low.type_inv ∙ c.floor-low.ensures in
-    (c.requires, (low_held, c.above-room.ensures ∙ K_held c.args.e c.requires.0.limits))
+    record { taken = c.requires; low_value = (low_held, c.above-room.ensures ∙ K_held c.args.e c.requires.0.limits) }
 
 pub overflow_cast-result : goal.overflow_cast-result
 overflow_cast-result c =
