@@ -13,7 +13,6 @@ use Rattle.expression.specs.Inner.Nodes.{AllTaken}
 use Rattle.sheet.specs.Sheet.{Link}
 use Rattle.sheet.specs.Reader.{read_sheet}
 use Rattle.sheet.specs.SheetRead.{SheetRead}
-use Rattle.sheet.specs.Format.{sheet}
 use Rattle.sizing.specs.Rooms.{verdict_in}
 
 -- "whichever streams the two clocks can stand for, or any others inside their envelopes": a is one that clock i can stand for, or lies in its envelope
