@@ -1,0 +1,12 @@
+-- `list_read` meets its contract: nothing is written where there is too little room. Assumes nothing.
+use borrow.Author.Rules.{rules}
+use mathlib.Core.Path.{sym, ◌∙◌}
+use native.Mathlib.Omega.{arith}
+use Rattle.report.specs.Listing.{whole_text}
+use Rattle.report.proofs.Texts.{text_short, text_fits}
+use Rattle.report.proofs.list_read.Goals as goal
+
+pub returns-then-enough : goal.returns-then-enough
+returns-then-enough c =
+    let a = text_fits (whole_text _ _ _) c.requires.1 _ (omega arith) (sym c.enough.ensures ∙ c.if-enough.true) _ _ c.put_sheet.ensures in
+    record { listed = a.0; text = a.1 }
