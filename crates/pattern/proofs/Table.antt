@@ -24,7 +24,7 @@ use Rattle.pattern.specs.Answer.{steps_of, check_answer, first_answer, next_of, 
 use Rattle.pattern.specs.Table.{Unfit, Refuses}
 use Rattle.pattern.specs.Walk.{PatternRefusals}
 use Rattle.judging.proofs.Loops.{plain_before}
-use Rattle.pattern.proofs.Checks.{Checked, checked, Checked.is_inside, Checked.no_taken_envelope, Checked.too_long, Checked.no_bit, Checked.forbidden, plain_stops, passed_take, passed_stops}
+use Rattle.pattern.proofs.Checks.{Checked, checked, plain_stops, passed_take, passed_stops}
 
 -- ---- the first byte that is no bit, and the first forbidden step, are where they are found
 plain_is : (p : List ℕ) (place : ℕ) → place < length p → 1 < get_or p place 0 → ((t : ℕ) → t < place → get_or p t 0 ≤ 1) → plain p ≡ place

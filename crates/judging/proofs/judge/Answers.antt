@@ -20,10 +20,10 @@ returns-then-plain-pattern c = let a = c.args in
 
 pub sweep_or_scan-requires : goal.sweep_or_scan-requires
 sweep_or_scan-requires c = (
-      is_taken_lem c.args.e (sym c.is_taken.ensures ∙ not-false c.is_taken.result c.if-not-is_taken.false-raw),
-      c.if-pattern-gt-LONGEST.false,
-      omega (arith, c.plain_len-plain.ensures, c.if-plain-pattern.false),
-    )
+  is_taken_lem c.args.e (sym c.is_taken.ensures ∙ not-false c.is_taken.result c.if-not-is_taken.false-raw),
+  c.if-pattern-gt-LONGEST.false,
+  omega (arith, c.plain_len-plain.ensures, c.if-plain-pattern.false),
+)
 
 pub returns : goal.returns
 returns c = let a = c.args in

@@ -25,10 +25,10 @@ returns-then-not-may_follow c = let a = c.args in
 
 pub moved_on-d-requires : goal.moved_on-d-requires
 moved_on-d-requires c = (
-      c.requires.0,
-      near_more c.loop-i.i longest (to_z w64 c.loop-i.d-bits) (omega arith) c.loop-i.invariant.1,
-      plain_before c.args.pattern.now c.loop-i.i (omega arith),
-    )
+  c.requires.0,
+  near_more c.loop-i.i longest (to_z w64 c.loop-i.d-bits) (omega arith) c.loop-i.invariant.1,
+  plain_before c.args.pattern.now c.loop-i.i (omega arith),
+)
 
 pub overflow_add-i : goal.overflow_add-i
 overflow_add-i c = omega arith

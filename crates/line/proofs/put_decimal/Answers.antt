@@ -1,7 +1,6 @@
 -- `put_decimal` meets its contract. Assumes nothing.
 use mathlib.Core.Path.{◌≡◌}
 use mathlib.Core.List.{◌∷◌}
-use borrow.Author.Rules.{rules}
 use mir.Facts.{to_z-of_z}
 use Rattle.line.specs.Text.{minus, digits, decimal, put}
 use Rattle.line.proofs.Signs.{minus_first, no_minus}

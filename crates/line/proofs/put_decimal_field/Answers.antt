@@ -1,5 +1,4 @@
 -- `put_decimal_field` meets its contract. Assumes nothing.
-use borrow.Author.Rules.{rules}
 use mir.Facts.{to_z-of_z}
 use Rattle.line.proofs.put_decimal_field.Goals as goal
 

@@ -1,5 +1,4 @@
 -- `put_digits_field` meets its contract. Assumes nothing.
-use borrow.Author.Rules.{rules}
 use Rattle.line.proofs.put_digits_field.Goals as goal
 
 pub returns : goal.returns

@@ -1,6 +1,5 @@
 -- `pattern::check` meets its contract.
 -- Assumes nothing.
-use borrow.Author.Rules.{rules}
 use mathlib.Core.Path.{sym, ◌∙◌}
 use Rattle.envelope.specs.declared.Envelope.{Envelope}
 use Rattle.judging.specs.declared.Judged.TheVariants.{Sound, Unsound}

@@ -2,7 +2,7 @@
 -- Assumes nothing.
 use Prim.Native.Nat.{ℕ, ◌-◌, ◌≤◌, ◌<◌}
 use native.Mathlib.Omega.{arith}
-use mathlib.Core.Path.{◌≡◌, refl, sym, ap, subst, ◌∙◌}
+use mathlib.Core.Path.{refl, sym, ap, subst, ◌∙◌}
 use mathlib.Core.List.{◌++◌}
 use lib.IntN.{ℤ}
 use lib.ListN.{length, take, length-set}
@@ -28,10 +28,10 @@ bounds-pattern-i c = omega arith
 
 pub moved_on-d-requires : goal.moved_on-d-requires
 moved_on-d-requires c = (
-      c.requires.0,
-      near_more c.loop-i.i longest (to_z w64 c.loop-i.d-bits) (omega arith) c.loop-i.invariant.2,
-      subst (λ (b : ℕ). b ≤ 1) (sym c.least_at-b.ensures) (least_bit c.args.e (to_z w64 c.loop-i.d-bits)),
-    )
+  c.requires.0,
+  near_more c.loop-i.i longest (to_z w64 c.loop-i.d-bits) (omega arith) c.loop-i.invariant.2,
+  subst (λ (b : ℕ). b ≤ 1) (sym c.least_at-b.ensures) (least_bit c.args.e (to_z w64 c.loop-i.d-bits)),
+)
 
 pub overflow_add-i : goal.overflow_add-i
 overflow_add-i c = omega arith

@@ -1,9 +1,8 @@
 -- `pattern::last_lift` meets its contract. The loop's invariant: d is the offset at place i, and the lift is that of the bits before it.
 -- Assumes nothing.
-use Prim.Native.Nat.{ℕ, ◌-◌, ◌≤◌, ◌<◌}
+use Prim.Native.Nat.{ℕ, ◌-◌, ◌<◌}
 use native.Mathlib.Omega.{arith}
 use mathlib.Core.Path.{◌≡◌, sym, ap, ◌∙◌}
-use mathlib.Core.Logic.{⊎_elim}
 use lib.IntN.{ℤ, pos}
 use lib.ListN.{length, take, get_or}
 use lib.Seq.{take-length, length-take-le}
@@ -37,10 +36,10 @@ bounds-pattern-i c = omega arith
 
 pub moved_back-d-requires : goal.moved_back-d-requires
 moved_back-d-requires c = let p = c.args.pattern.now in (
-      c.requires.taken.0,
-      rw c.loop-i.invariant.1 (near_more (length (take c.loop-i.i p)) longest _ (omega (arith, length-take-le c.loop-i.i p c.loop-i.invariant.0)) (near_reached c.args.e c.requires.taken.0 (take c.loop-i.i p))),
-      plain_before p (c.loop-i.i - 1) (omega arith),
-    )
+  c.requires.taken.0,
+  rw c.loop-i.invariant.1 (near_more (length (take c.loop-i.i p)) longest _ (omega (arith, length-take-le c.loop-i.i p c.loop-i.invariant.0)) (near_reached c.args.e c.requires.taken.0 (take c.loop-i.i p))),
+  plain_before p (c.loop-i.i - 1) (omega arith),
+)
 
 pub one_at-requires : goal.one_at-requires
 one_at-requires c = c.requires.taken.0

@@ -1,23 +1,10 @@
 -- `pattern::last_lift` meets its contract. The loop's invariant: d is the offset at place i, and the lift is that of the bits before it.
 -- Assumes nothing.
-use Prim.Native.Nat.{ℕ, ◌-◌, ◌≤◌, ◌<◌}
-use native.Mathlib.Omega.{arith}
-use mathlib.Core.Path.{◌≡◌, sym, ap, ◌∙◌}
-use mathlib.Core.Logic.{⊎_elim}
-use lib.IntN.{ℤ, pos}
-use lib.ListN.{length, take, get_or}
-use lib.Seq.{take-length, length-take-le}
-use mir.Syntax.{w64}
-use mir.Val.{to_z, of_z}
-use mir.Facts.{to_z-of_z}
-use Rattle.whole.proofs.Machine.{told}
-use Rattle.judging.specs.Bytes.{longest}
-use Rattle.judging.specs.Inner.Scan.{offset_after}
+use Prim.Native.Nat.{◌≤◌}
+use mathlib.Core.Path.{◌≡◌}
+use lib.IntN.{pos}
+use lib.ListN.{length, take}
 use Rattle.pattern.specs.Inner.Lifts.{reached, lift_of}
-use Rattle.judging.proofs.Offsets.{near_more}
-use Rattle.pattern.proofs.Offsets.{near_reached}
-use Rattle.judging.proofs.Loops.{plain_before}
-use Rattle.pattern.proofs.Loops.{offset_back, lift_found, lift_stays}
 use Rattle.pattern.proofs.last_lift.Given as goal
 
 abbrev pub invariant-loop-i : goal.invariant-loop-i

@@ -1,10 +1,8 @@
 -- `read_from_clocks` meets its contract: the clocks' reader decides, and then what is read from the links on. Assumes nothing.
 use Prim.Native.Nat.{◌+◌, ◌≤◌}
 use native.Mathlib.Omega.{arith}
-use borrow.Author.Rules.{rules}
 use lib.ListN.{length}
-use Rattle.sheet.specs.Sheet.{clocks_most}
-use Rattle.reading.proofs.Tables.Stages.{clocks_refused, few_clocks, count_within, clocks_then}
+use Rattle.reading.proofs.Tables.Stages.{clocks_refused, count_within, clocks_then}
 use Rattle.reading.proofs.read_from_clocks.Goals as goal
 
 pub overflow_add-start : goal.overflow_add-start

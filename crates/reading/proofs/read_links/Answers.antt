@@ -2,10 +2,9 @@
 -- Assumes nothing.
 use mathlib.Core.Path.{◌≡◌, refl, sym, ap, ◌∙◌}
 use mathlib.Core.List.{[]}
-use Prim.Native.Nat.{ℕ, ◌+◌, ◌-◌, ◌≤◌, ◌<◌}
+use Prim.Native.Nat.{ℕ, ◌+◌, ◌<◌}
 use native.Mathlib.Omega.{arith}
-use borrow.Author.Rules.{rules}
-use lib.ListN.{length, length-set}
+use lib.ListN.{length-set}
 use Rattle.reply.specs.Numbers.{beyond}
 use Rattle.field.specs.Read.{Read.got}
 use Rattle.field.specs.Field.{field_in, field_of}
@@ -14,7 +13,7 @@ use Rattle.sheet.specs.Sheet.{links_most}
 use Rattle.sheet.specs.Reader.{link_at}
 use Rattle.reading.specs.Inner.Sections.{ends_of}
 use Rattle.reading.proofs.Tables.Readings.{section_none, section_rows, reached_refused, reached_all}
-use Rattle.reading.proofs.Tables.LinkTable.{link_anywhere, ends_there, Ended, ended_none, ended_more, rows_refused, rows_got}
+use Rattle.reading.proofs.Tables.LinkTable.{link_anywhere, ends_there, ended_none, ended_more, rows_refused, rows_got}
 use Rattle.reading.proofs.read_links.Goals as goal
 
 pub returns-in_default : goal.returns-in_default

@@ -1,5 +1,4 @@
 -- `read_to_end` meets its contract: the links' reader decides, and then the end. Assumes nothing.
-use borrow.Author.Rules.{rules}
 use Rattle.reading.proofs.Tables.Stages.{links_refused, links_past, links_got}
 use Rattle.reading.proofs.read_to_end.Goals as goal
 

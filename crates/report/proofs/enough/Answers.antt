@@ -1,10 +1,9 @@
 -- `enough` meets its contract: as many bytes as the longest text has are enough, and for fewer the text is measured. Assumes nothing.
-use borrow.Author.Rules.{rules}
 use mathlib.Core.Path.{ap}
 use Prim.Native.Nat.{ℕ}
 use lib.Dec.{leb}
 use Rattle.report.specs.Listing.{whole_text}
-use Rattle.report.proofs.Texts.{most_enough, measured}
+use Rattle.report.proofs.Texts.{measured}
 use Rattle.report.proofs.enough.Goals as goal
 
 pub returns : goal.returns

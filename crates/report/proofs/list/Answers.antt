@@ -13,7 +13,6 @@ use Rattle.sheet.specs.SheetRead.{SheetRead}
 use Rattle.reading.specs.Inner.Sections.{found_of}
 use Rattle.sizing.proofs.Outcome.{reading_refused, reading_got, clocks_few, links_few, ready}
 use Rattle.report.proofs.Texts.{listed_refused, text_most, listed_good}
-use borrow.Author.Rules.{rules}
 use Rattle.report.proofs.list.Goals as goal
 
 pub overflow_mul-nodes : goal.overflow_mul-nodes

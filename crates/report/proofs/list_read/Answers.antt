@@ -1,9 +1,8 @@
 -- `list_read` meets its contract: nothing is written where there is too little room. Assumes nothing.
-use borrow.Author.Rules.{rules}
 use mathlib.Core.Path.{sym, ◌∙◌}
 use native.Mathlib.Omega.{arith}
 use Rattle.report.specs.Listing.{whole_text}
-use Rattle.report.proofs.Texts.{text_short, text_fits}
+use Rattle.report.proofs.Texts.{text_fits}
 use Rattle.report.proofs.list_read.Goals as goal
 
 pub returns-then-enough : goal.returns-then-enough

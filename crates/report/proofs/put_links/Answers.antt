@@ -1,16 +1,14 @@
 -- `put_links` meets its contract: the links so far are put and summed up. Assumes nothing.
 use mathlib.Core.Path.{◌≡◌, refl, sym, ap, ◌∙◌, subst}
-use Prim.Native.Nat.{◌-◌, ◌*◌, ◌≤◌}
+use Prim.Native.Nat.{◌≤◌}
 use native.Mathlib.Omega.{arith}
-use lib.ListN.{length}
 use Rattle.link.specs.Link.{size_in}
 use Rattle.expression.specs.Inner.Nodes.{nodes_in}
 use Rattle.reading.specs.Inner.Sections.{links_of}
 use Rattle.sizing.specs.Inner.Rows.{rooms_over}
 use Rattle.reading.proofs.Tables.LinkTable.{links_many, next_link}
 use Rattle.sizing.proofs.Written.{Summed, summed_none, row_few, summed_more, rows_all}
-use Rattle.line.proofs.Puts.{going_length}
-use Rattle.report.proofs.LinkRows.{Going, going_more, going_all}
+use Rattle.report.proofs.LinkRows.{going_more, going_all}
 use Rattle.report.proofs.put_links.Goals as goal
 
 pub loop-i-init : goal.loop-i-init
@@ -25,10 +23,10 @@ plus-rooms-requires c =
 
 pub loop-i-preserved : goal.loop-i-preserved
 loop-i-preserved c = let more = c.loop-i-test.true in (
-      omega arith,
-      λ pairs. going_more (nodes_in c.args.table.now) c.args.states.now c.args.ends.now c.args.n pairs _ _ _ _ _ _ _ (c.loop-i.invariant.1 pairs) more c.row-r.result c.row-r.ensures c.put_link-at.ensures,
-      summed_more _ _ _ _ _ _ c.loop-i.invariant.2 c.requires.table.taken _ c.row-r.result (next_link c.args.n c.args.ends.now c.requires.pairs c.loop-i.i more) c.row-r.ensures c.plus-rooms.ensures,
-    )
+  omega arith,
+  λ pairs. going_more (nodes_in c.args.table.now) c.args.states.now c.args.ends.now c.args.n pairs _ _ _ _ _ _ _ (c.loop-i.invariant.1 pairs) more c.row-r.result c.row-r.ensures c.put_link-at.ensures,
+  summed_more _ _ _ _ _ _ c.loop-i.invariant.2 c.requires.table.taken _ c.row-r.result (next_link c.args.n c.args.ends.now c.requires.pairs c.loop-i.i more) c.row-r.ensures c.plus-rooms.ensures,
+)
 
 pub returns : goal.returns
 returns c = let done : c.loop-i.i ≡ c.args.n = omega arith in

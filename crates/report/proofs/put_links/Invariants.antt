@@ -1,16 +1,11 @@
 -- `put_links` meets its contract: the links so far are put and summed up. Assumes nothing.
-use mathlib.Core.Path.{◌≡◌, refl, sym, ap, ◌∙◌, subst}
+use mathlib.Core.Path.{◌≡◌}
 use Prim.Native.Nat.{◌-◌, ◌*◌, ◌≤◌}
-use native.Mathlib.Omega.{arith}
 use lib.ListN.{length}
-use Rattle.link.specs.Link.{size_in}
 use Rattle.expression.specs.Inner.Nodes.{nodes_in}
 use Rattle.reading.specs.Inner.Sections.{links_of}
-use Rattle.sizing.specs.Inner.Rows.{rooms_over}
-use Rattle.reading.proofs.Tables.LinkTable.{links_many, next_link}
-use Rattle.sizing.proofs.Written.{Summed, summed_none, row_few, summed_more, rows_all}
-use Rattle.line.proofs.Puts.{going_length}
-use Rattle.report.proofs.LinkRows.{Going, going_more, going_all}
+use Rattle.sizing.proofs.Written.{Summed}
+use Rattle.report.proofs.LinkRows.{Going}
 use Rattle.report.proofs.put_links.Given as goal
 
 abbrev pub invariant-loop-i : goal.invariant-loop-i

@@ -1,5 +1,4 @@
 -- `put_sheet` meets its contract: its parts are put one after another. Assumes nothing.
-use borrow.Author.Rules.{rules}
 use Rattle.expression.specs.Inner.Nodes.{nodes_in}
 use Rattle.report.proofs.Texts.{whole_put}
 use Rattle.report.proofs.put_sheet.Goals as goal

@@ -10,7 +10,7 @@ use Rattle.reply.specs.Numbers.{beyond, trailing}
 use Rattle.field.specs.Read.{Read, Read.got, bind}
 use Rattle.field.specs.Spelling.{bytes_of, AllBytes, Bytes}
 use Rattle.field.proofs.Read.{through, cond_left}
-use Rattle.field.proofs.Spelling.{join, end, split, whole_text_lem, itself}
+use Rattle.field.proofs.Spelling.{join, split, whole_text_lem, itself}
 use Rattle.envelope.specs.declared.Node.{Node}
 use Rattle.expression.specs.Expression.{Word, Clock, spell_word, spell_clock}
 use Rattle.expression.specs.Evaluate.{word_node, word_nodes, Worked}

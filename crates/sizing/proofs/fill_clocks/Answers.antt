@@ -19,11 +19,11 @@ store_clock-requires c = let more = c.loop-i-test.true in
 
 pub loop-i-preserved : goal.loop-i-preserved
 loop-i-preserved c = let more = c.loop-i-test.true in (
-      omega arith,
-      c.store_clock.auto.list ∙ c.loop-i.invariant.1,
-      rw (nodes_next c.args.table.now c.loop-i.i c.entry.result (omega (arith, c.requires.1, more)) c.entry.ensures)
-          (written_more clock_numbers 4 (λ x. refl) _ _ _ _ _ c.loop-i.invariant.2 c.entry.result (omega (arith, c.loop-i.invariant.1, c.requires.3, more)) c.store_clock.ensures),
-    )
+  omega arith,
+  c.store_clock.auto.list ∙ c.loop-i.invariant.1,
+  rw (nodes_next c.args.table.now c.loop-i.i c.entry.result (omega (arith, c.requires.1, more)) c.entry.ensures)
+      (written_more clock_numbers 4 (λ x. refl) _ _ _ _ _ c.loop-i.invariant.2 c.entry.result (omega (arith, c.loop-i.invariant.1, c.requires.3, more)) c.store_clock.ensures),
+)
 
 pub returns : goal.returns
 returns c = let done : c.loop-i.i ≡ c.args.m = omega arith in

@@ -28,12 +28,12 @@ plus-rooms-requires c =
 
 pub loop-i-preserved : goal.loop-i-preserved
 loop-i-preserved c = let next = next_link c.args.n c.args.ends.now c.requires.0.pairs c.loop-i.i c.loop-i-test.true in (
-      omega arith,
-      c.store_row.auto.list ∙ c.loop-i.invariant.1,
-      summed_more _ _ _ _ _ _ c.loop-i.invariant.2 c.requires.0.table.taken _ c.row-r.result next c.row-r.ensures c.plus-rooms.ensures,
-      rw (rows_more (nodes_in c.args.clocks.now) c.args.states.now (links_of c.args.ends.now) c.loop-i.i _ c.row-r.result next c.row-r.ensures)
-          (written_more link_numbers 3 (λ q. refl) _ _ _ _ _ c.loop-i.invariant.3 c.row-r.result (omega (arith, c.loop-i.invariant.1, c.requires.1, c.loop-i-test.true)) c.store_row.ensures),
-    )
+  omega arith,
+  c.store_row.auto.list ∙ c.loop-i.invariant.1,
+  summed_more _ _ _ _ _ _ c.loop-i.invariant.2 c.requires.0.table.taken _ c.row-r.result next c.row-r.ensures c.plus-rooms.ensures,
+  rw (rows_more (nodes_in c.args.clocks.now) c.args.states.now (links_of c.args.ends.now) c.loop-i.i _ c.row-r.result next c.row-r.ensures)
+      (written_more link_numbers 3 (λ q. refl) _ _ _ _ _ c.loop-i.invariant.3 c.row-r.result (omega (arith, c.loop-i.invariant.1, c.requires.1, c.loop-i-test.true)) c.store_row.ensures),
+)
 
 pub returns-clause-rooms : goal.returns-clause-rooms
 returns-clause-rooms c = let done : c.loop-i.i ≡ c.args.n = omega arith in

@@ -10,8 +10,7 @@ pub judge-verdict-requires : goal.judge-verdict-requires
 judge-verdict-requires c =
     let room : 2 * c.args.i + 1 < length c.args.ends.now = omega (arith, c.requires.1, c.requires.2.pairs) in
     let producer : get_or c.args.ends.now (2 * c.args.i) 0 < length c.args.states.now = c.requires.2.there (2 * c.args.i) (omega (arith, room)) in
-    let consumer : get_or c.args.ends.now (2 * c.args.i + 1) 0 < length c.args.states.now = c.requires.2.there (2 * c.args.i + 1) room in
-    (
+    let consumer : get_or c.args.ends.now (2 * c.args.i + 1) 0 < length c.args.states.now = c.requires.2.there (2 * c.args.i + 1) room in (
       entry_taken c.args.clocks.now _ _ c.requires.2.table (omega (arith, producer, c.requires.2.many)) c.entry-producer.ensures,
       entry_taken c.args.clocks.now _ _ c.requires.2.table (omega (arith, consumer, c.requires.2.many)) c.entry-consumer.ensures,
     )

@@ -19,12 +19,11 @@ overflow_add-ones c =
 
 pub loop-left-preserved : goal.loop-left-preserved
 loop-left-preserved c =
-    let bit : c.in-Got.b < 2 = (there _ _ _ _ _ _ c.within-f.ensures c.in-Got.is).most in
-    (
-  omega (arith, bit),
-  c.loop-left.invariant.1
-      ∙ count_more _ _ _ _ _ _ c.loop-left-test.true (sym c.within-f.ensures ∙ ap field_of c.in-Got.is),
-)
+    let bit : c.in-Got.b < 2 = (there _ _ _ _ _ _ c.within-f.ensures c.in-Got.is).most in (
+      omega (arith, bit),
+      c.loop-left.invariant.1
+          ∙ count_more _ _ _ _ _ _ c.loop-left-test.true (sym c.within-f.ensures ∙ ap field_of c.in-Got.is),
+    )
 
 pub returns : goal.returns
 returns c = let none : c.loop-left.left ≡ 0 = omega arith in

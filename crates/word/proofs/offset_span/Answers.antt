@@ -49,5 +49,6 @@ pub loop-t-preserved : goal.loop-t-preserved
 loop-t-preserved c = let v = c.loop-t.invariant in
     let a = c.args in
     elim c.if-bits-t-eq1.branch [
-      then-bits-t-eq1 w ↦ turn_one a.bits.now a.l a.n _ _ _ c.loop-t-test.true v.1 v.2 v.3 _ _ w.offset.result _ w.if-bits-t-eq1.true w.j-is (w.s-is ∙ w.including-s.ensures) (told _ w.offset.type_inv) w.offset.ensures
-    | else-bits-t-eq1 w ↦ turn_zero a.bits.now a.l a.n _ _ _ c.loop-t-test.true v.1 v.2 v.3 _ _ w.if-bits-t-eq1.false w.j-is w.s-is ]
+      | then-bits-t-eq1 w ↦ turn_one a.bits.now a.l a.n _ _ _ c.loop-t-test.true v.1 v.2 v.3 _ _ w.offset.result _ w.if-bits-t-eq1.true w.j-is (w.s-is ∙ w.including-s.ensures) (told _ w.offset.type_inv) w.offset.ensures
+      | else-bits-t-eq1 w ↦ turn_zero a.bits.now a.l a.n _ _ _ c.loop-t-test.true v.1 v.2 v.3 _ _ w.if-bits-t-eq1.false w.j-is w.s-is
+    ]
