@@ -4,7 +4,7 @@
 mod temporary;
 
 ghost use Rattle.std.specs.Prelude.{◌≡◌, ◌≤◌, length};
-ghost use Rattle.io.specs.Counts.{IsPrefixLen};
+ghost use Rattle.terminal.specs.Counts.{Counts};
 
 use numeral::Number;
 use register::Closing;
@@ -33,7 +33,7 @@ fn is_link(rt: &impl Files, path: &str) -> bool {
 
 // How many bytes of a path name its folder: all up to the last slash.
 fn folder_len(path: &[u8]) -> usize
-    ensures { IsPrefixLen result path.now }
+    ensures { Counts result path.now }
 {
     let mut n = path.len();
     while 0 < n {

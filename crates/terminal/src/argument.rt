@@ -1,6 +1,6 @@
 // A program's arguments, with a complaint where one will not do.
 ghost use Rattle.std.specs.Prelude.{◌≡◌, IfSome};
-ghost use Rattle.io.specs.Counts.{IsPrefixLen};
+ghost use Rattle.terminal.specs.Counts.{Counts};
 
 use crate::complaint::{Streams, complain, complain_of_argument, complain_of_failure};
 use crate::input::Input;
@@ -43,7 +43,7 @@ pub fn path_argument(
     place: usize,
     text: &mut [u8],
 ) -> Input
-    ensures { IsPrefixLen result.bytes text.new }
+    ensures { Counts result.bytes text.new }
 {
     match rt.arg(place, text) {
         Ok(n) => Input {

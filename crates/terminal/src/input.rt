@@ -1,6 +1,6 @@
 // Whole inputs.
 ghost use Rattle.std.specs.Prelude.{◌≡◌, length};
-ghost use Rattle.io.specs.Counts.{IsPrefixLen};
+ghost use Rattle.terminal.specs.Counts.{Counts};
 ghost use Rattle.std.specs.Io.{ReadsAtMost};
 
 use crate::complaint::{Streams, complain_of_failure};
@@ -44,7 +44,7 @@ pub fn read_file<R: Read + Drop>(
     name: &[u8],
     bytes: &mut [u8],
 ) -> Input
-    ensures { IsPrefixLen result.bytes bytes.new }
+    ensures { Counts result.bytes bytes.new }
 {
     match opened {
         Ok(file) => read_opened(to, program, file, name, bytes),
@@ -71,7 +71,7 @@ fn read_opened<R: Read + Drop>(
     name: &[u8],
     bytes: &mut [u8],
 ) -> Input
-    ensures { IsPrefixLen result.bytes bytes.new }
+    ensures { Counts result.bytes bytes.new }
 {
     let mut file = file;
     match read_whole(&mut file, bytes) {
