@@ -1,5 +1,5 @@
 -- `print_outcome` meets its contract: the line is no longer than the buffer.
-use Rattle.std.proofs.Common.{◌≡◌, ◌∙◌, sym, ℕ, ◌^◌, ◌≤◌, ◌<◌, List, length, arith, length-append, length-take-le}
+use Rattle.std.proofs.Common.{◌∙◌, sym, ℕ, ◌^◌, ◌≤◌, ◌<◌, List, length, arith, length-append, length-take-le}
 use Rattle.line.specs.Text.{line_of, outcome_fields}
 use Rattle.line.proofs.Puts.{put_line_lem, put_at, put_length}
 use Rattle.line.proofs.Digits.{length_most}
