@@ -93,9 +93,7 @@ fn swap<R: Files + RandomSource>(
     path: &str,
     temp: &mut [u8],
     bytes: &[u8],
-) -> bool
-    requires { 6 ≤ length temp.old }
-{
+) -> bool {
     let file = match create_temp(rt, temp) {
         Ok(file) => file,
         Err(why) => {

@@ -1,6 +1,4 @@
 // The temporary file that takes the new bytes: it has a name that no other file has.
-ghost use Rattle.std.specs.Prelude.{◌≤◌, length};
-
 use std::fs::OpenOptions;
 use std::os::unix::fs::OpenOptionsExt;
 use std::random::RandomSource;
@@ -25,10 +23,11 @@ fn letter(drawn: u8) -> u8 {
     }
 }
 
-// Puts letters and figures that were drawn at random in the place of a name's last six bytes.
-fn draw_ending(rt: &impl RandomSource, name: &mut [u8]) -> io::Result<()>
-    requires { 6 ≤ length name.old }
-{
+// Puts letters and figures that were drawn at random in the place of a name's last six bytes. A shorter name is refused, as by mkstemp.
+fn draw_ending(rt: &impl RandomSource, name: &mut [u8]) -> io::Result<()> {
+    if name.len() < 6 {
+        return Err(io::Error::from(io::ErrorKind::InvalidInput));
+    }
     let mut drawn = [0u8; 6];
     rt.fill_bytes(&mut drawn)?;
     let start = name.len() - 6;
@@ -55,17 +54,13 @@ fn create_new<R: Files>(rt: &R, name: &[u8]) -> io::Result<R::File> {
         .open(rt, name_text(name)?)
 }
 
-fn create_other<R: Files + RandomSource>(rt: &R, name: &mut [u8]) -> io::Result<R::File>
-    requires { 6 ≤ length name.old }
-{
+fn create_other<R: Files + RandomSource>(rt: &R, name: &mut [u8]) -> io::Result<R::File> {
     draw_ending(rt, name)?;
     create_new(rt, name)
 }
 
 // Creates a file, and puts its name's last six bytes in the slice.
-pub fn create_temp<R: Files + RandomSource>(rt: &R, name: &mut [u8]) -> io::Result<R::File>
-    requires { 6 ≤ length name.old }
-{
+pub fn create_temp<R: Files + RandomSource>(rt: &R, name: &mut [u8]) -> io::Result<R::File> {
     for _ in 1..TRIES {
         match create_other(rt, name) {
             Ok(file) => return Ok(file),

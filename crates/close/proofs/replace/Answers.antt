@@ -1,5 +1,5 @@
 -- `replace` is safe: the path and the ending of its temporary file lie within the room for them.
-use Rattle.std.proofs.Common.{◌≡◌, ◌≤◌, ◌+◌, length, sym, arith, length-take-le}
+use Rattle.std.proofs.Common.{sym, arith, length-take-le}
 use Rattle.line.proofs.Puts.{put_at}
 use Rattle.close.proofs.replace.Goals as goal
 
@@ -10,8 +10,3 @@ slice_bounds-temp-end g c =
 pub slice_bounds-swap-end : goal.slice_bounds-swap-end
 slice_bounds-swap-end g c =
     sym (length-take-le _ _ (omega (arith, put_at _ _ _ 0 _ (omega arith) c.put_bytes-m.ensures, put_at _ _ _ c.put_bytes-m.result _ (omega arith) c.put_bytes-n.ensures)))
-
-pub swap-requires : goal.swap-requires
-swap-requires g c =
-    let part = length-take-le c.put_bytes-n.result c.put_bytes-n.new.out (omega (arith, put_at _ _ _ 0 _ (omega arith) c.put_bytes-m.ensures, put_at _ _ _ c.put_bytes-m.result _ (omega arith) c.put_bytes-n.ensures)) in
-    omega (arith, part, put_at _ _ _ 0 _ (omega arith) c.put_bytes-m.ensures, put_at _ _ _ c.put_bytes-m.result _ (omega arith) c.put_bytes-n.ensures)

@@ -1,5 +1,5 @@
 -- `put_line` meets its contract: the line ends within the buffer.
-use Rattle.std.proofs.Common.{◌≤◌, ◌+◌, length, arith, length-take-le}
+use Rattle.std.proofs.Common.{length, arith, length-take-le}
 use Rattle.line.proofs.Puts.{put_at}
 use Rattle.dump.proofs.BitLine.{bits_length}
 use Rattle.patterns.proofs.put_line.Goals as goal

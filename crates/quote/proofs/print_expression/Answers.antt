@@ -1,5 +1,5 @@
 -- `print_expression` is safe: three bytes for each byte of the expression lie within the buffer.
-use Rattle.std.proofs.Common.{length, sym, arith, length-take-le}
+use Rattle.std.proofs.Common.{sym, arith, length-take-le}
 use Rattle.line.proofs.Puts.{put_at, put_length}
 use Rattle.dump.proofs.HexLine.{hex_length}
 use Rattle.quote.proofs.print_expression.Goals as goal
