@@ -11,6 +11,7 @@ use pattern::Answer;
 use register::Closing;
 use report::Listed;
 use sizing::Reply as Worked;
+use std::io::{Print, Read, Stderr, Stdin, Stdout};
 
 // The most bytes of a sheet or a pattern.
 const BODY: usize = 40_000;
@@ -43,6 +44,14 @@ const NEXT: u8 = 6;
 
 const LIST: u8 = 7;
 
+// Where cases come from, and where answers and complaints go.
+#[derive(Clone, Copy)]
+struct Streams {
+    input: Stdin,
+    output: Stdout,
+    errors: Stderr,
+}
+
 // What became of a case.
 #[derive(Clone, Copy)]
 enum Turn {
@@ -52,17 +61,18 @@ enum Turn {
 }
 
 // Whether the bytes from `from` to `to` could all be read.
-fn is_read(bytes: &mut [u8], from: usize, to: usize) -> bool
+fn is_read(io: Streams, bytes: &mut [u8], from: usize, to: usize) -> bool
     requires { (from ≤ to) × (to ≤ length bytes.old) }
 {
-    io::read_full(libc::STDIN_FILENO, &mut bytes[from..to]) == to - from
+    let mut input = io.input;
+    input.read_exact(&mut bytes[from..to]).is_ok()
 }
 
 // Writes the first n bytes of an answer; where that fails the run ends.
-fn sent(answer: &[u8], n: usize) -> Turn
+fn sent(io: Streams, answer: &[u8], n: usize) -> Turn
     requires { n ≤ length answer.now }
 {
-    if io::write_all(libc::STDOUT_FILENO, &answer[0..n]) {
+    if io.output.write_all(&answer[0..n]).is_ok() {
         Turn::Answered
     } else {
         Turn::Ended
@@ -91,21 +101,27 @@ fn put_worked(out: &mut [u8], r: Worked)
     put_low_first(out, 33, 8, r.whole);
 }
 
-fn worked_out(sheet: &[u8], clocks: &mut [i64], links: &mut [i64], out: &mut [u8]) -> Turn
+fn worked_out(
+    io: Streams,
+    sheet: &[u8],
+    clocks: &mut [i64],
+    links: &mut [i64],
+    out: &mut [u8],
+) -> Turn
     requires { (length clocks.old ≤ 1024) × (length links.old ≤ 1024) × (length out.old ≡ 65553) }
 {
     let r = sizing::work_out(sheet, clocks, links);
     put_worked(out, r);
     let next = put_all(out, 41, clocks);
     let end = put_all(out, next, links);
-    sent(out, end)
+    sent(io, out, end)
 }
 
-fn work_out(body: &mut [u8], out: &mut [u8]) -> Turn
+fn work_out(io: Streams, body: &mut [u8], out: &mut [u8]) -> Turn
     requires { (length body.old ≡ 40000) × (length out.old ≡ 65553) }
 {
     let mut head = [0u8; 12];
-    if !is_read(&mut head, 0, 12) {
+    if !is_read(io, &mut head, 0, 12) {
         return Turn::Malformed;
     }
     let a = low_first(&head, 0, 4);
@@ -120,14 +136,14 @@ fn work_out(body: &mut [u8], out: &mut [u8]) -> Turn
     if BODY < n {
         return Turn::Malformed;
     }
-    if !is_read(body, 0, n) {
+    if !is_read(io, body, 0, n) {
         return Turn::Malformed;
     }
     let mut clocks = [0i64; 1024];
     let mut links = [0i64; 1024];
     lend(&mut clocks, 999);
     lend(&mut links, 1999);
-    worked_out(&body[0..n], &mut clocks[0..a], &mut links[0..b], out)
+    worked_out(io, &body[0..n], &mut clocks[0..a], &mut links[0..b], out)
 }
 
 // Number and place of closing: the place of the byte that it turned, or the refusal's.
@@ -140,11 +156,11 @@ fn put_closing(out: &mut [u8], r: Closing)
     }
 }
 
-fn close(out: &mut [u8]) -> Turn
+fn close(io: Streams, out: &mut [u8]) -> Turn
     requires { length out.old ≡ 65553 }
 {
     let mut head = [0u8; 12];
-    if !is_read(&mut head, 0, 12) {
+    if !is_read(io, &mut head, 0, 12) {
         return Turn::Malformed;
     }
     let clock = low_first(&head, 0, 8);
@@ -153,12 +169,12 @@ fn close(out: &mut [u8]) -> Turn
         return Turn::Malformed;
     }
     let end = REPLY + n;
-    if !is_read(out, REPLY, end) {
+    if !is_read(io, out, REPLY, end) {
         return Turn::Malformed;
     }
     let r = register::close(&mut out[REPLY..end], clock);
     put_closing(out, r);
-    sent(out, end)
+    sent(io, out, end)
 }
 
 // Number and place of quoting: only a refusal's part is empty, so no other has the sheet read twice.
@@ -174,23 +190,23 @@ fn put_quoting(out: &mut [u8], sheet: &[u8], clock: usize, part: &[u8])
 }
 
 // The part is written from where it stands.
-fn quoted(sheet: &[u8], clock: usize, out: &mut [u8]) -> Turn
+fn quoted(io: Streams, sheet: &[u8], clock: usize, out: &mut [u8]) -> Turn
     requires { length out.old ≡ 65553 }
 {
     let part = register::quote(sheet, clock);
     put_quoting(out, sheet, clock, part);
     let end = put_low_first(out, REPLY, 4, part.len() as u64);
-    let Turn::Answered = sent(out, end) else {
+    let Turn::Answered = sent(io, out, end) else {
         return Turn::Ended;
     };
-    sent(part, part.len())
+    sent(io, part, part.len())
 }
 
-fn quote(body: &mut [u8], out: &mut [u8]) -> Turn
+fn quote(io: Streams, body: &mut [u8], out: &mut [u8]) -> Turn
     requires { (length body.old ≡ 40000) × (length out.old ≡ 65553) }
 {
     let mut head = [0u8; 12];
-    if !is_read(&mut head, 0, 12) {
+    if !is_read(io, &mut head, 0, 12) {
         return Turn::Malformed;
     }
     let clock = low_first(&head, 0, 8);
@@ -198,10 +214,10 @@ fn quote(body: &mut [u8], out: &mut [u8]) -> Turn
     if BODY < n {
         return Turn::Malformed;
     }
-    if !is_read(body, 0, n) {
+    if !is_read(io, body, 0, n) {
         return Turn::Malformed;
     }
-    quoted(&body[0..n], clock, out)
+    quoted(io, &body[0..n], clock, out)
 }
 
 fn put_answer(out: &mut [u8], answer: Answer)
@@ -224,22 +240,22 @@ fn asked(op: u8, k: i64, K: i64, l: u64, n: u64, bits: &mut [u8]) -> Answer {
 }
 
 // Asks about the pattern that was read behind the place of the reply. The answer of check ends before it.
-fn walked(op: u8, k: i64, K: i64, l: u64, n: u64, out: &mut [u8], end: usize) -> Turn
+fn walked(io: Streams, op: u8, k: i64, K: i64, l: u64, n: u64, out: &mut [u8], end: usize) -> Turn
     requires { (9 ≤ end) × (end ≤ length out.old) }
 {
     let answer = asked(op, k, K, l, n, &mut out[REPLY..end]);
     put_answer(out, answer);
     if op == CHECK {
-        return sent(out, REPLY);
+        return sent(io, out, REPLY);
     }
-    sent(out, end)
+    sent(io, out, end)
 }
 
-fn pattern(op: u8, out: &mut [u8]) -> Turn
+fn pattern(io: Streams, op: u8, out: &mut [u8]) -> Turn
     requires { length out.old ≡ 65553 }
 {
     let mut head = [0u8; 36];
-    if !is_read(&mut head, 0, 36) {
+    if !is_read(io, &mut head, 0, 36) {
         return Turn::Malformed;
     }
     let k = from_twos(low_first(&head, 0, 8) as u64, HALF_64);
@@ -251,10 +267,10 @@ fn pattern(op: u8, out: &mut [u8]) -> Turn
         return Turn::Malformed;
     }
     let end = REPLY + m;
-    if !is_read(out, REPLY, end) {
+    if !is_read(io, out, REPLY, end) {
         return Turn::Malformed;
     }
-    walked(op, k, K, l, n, out, end)
+    walked(io, op, k, K, l, n, out, end)
 }
 
 // What a lent text holds before the call: byte i is i mod 251.
@@ -281,11 +297,11 @@ fn put_listed(out: &mut [u8], listed: Listed)
     }
 }
 
-fn list(body: &mut [u8], out: &mut [u8]) -> Turn
+fn list(io: Streams, body: &mut [u8], out: &mut [u8]) -> Turn
     requires { (length body.old ≡ 40000) × (length out.old ≡ 65553) }
 {
     let mut head = [0u8; 8];
-    if !is_read(&mut head, 0, 8) {
+    if !is_read(io, &mut head, 0, 8) {
         return Turn::Malformed;
     }
     let c = low_first(&head, 0, 4);
@@ -296,67 +312,72 @@ fn list(body: &mut [u8], out: &mut [u8]) -> Turn
     if BODY < n {
         return Turn::Malformed;
     }
-    if !is_read(body, 0, n) {
+    if !is_read(io, body, 0, n) {
         return Turn::Malformed;
     }
-    listed(&body[0..n], out, LISTING + c)
+    listed(io, &body[0..n], out, LISTING + c)
 }
 
 // Lists a sheet into the bytes of the answer from the place of the text to `end`.
-fn listed(sheet: &[u8], out: &mut [u8], end: usize) -> Turn
+fn listed(io: Streams, sheet: &[u8], out: &mut [u8], end: usize) -> Turn
     requires { (17 ≤ end) × (end ≤ length out.old) }
 {
     lend_text(&mut out[LISTING..end]);
     let r = report::list(sheet, &mut out[LISTING..end]);
     put_listed(out, r);
-    sent(out, end)
+    sent(io, out, end)
 }
 
 // One case, its first byte in op.
-fn case(op: u8, body: &mut [u8], out: &mut [u8]) -> Turn
+fn case(io: Streams, op: u8, body: &mut [u8], out: &mut [u8]) -> Turn
     requires { (length body.old ≡ 40000) × (length out.old ≡ 65553) }
 {
     match op {
-        WORK_OUT => work_out(body, out),
-        CLOSE => close(out),
-        QUOTE => quote(body, out),
-        CHECK | FIRST | NEXT => pattern(op, out),
-        LIST => list(body, out),
+        WORK_OUT => work_out(io, body, out),
+        CLOSE => close(io, out),
+        QUOTE => quote(io, body, out),
+        CHECK | FIRST | NEXT => pattern(io, op, out),
+        LIST => list(io, body, out),
         _ => Turn::Malformed,
     }
 }
 
 // Reads and answers one case, and answers whether to go on.
-fn goes_on(body: &mut [u8], out: &mut [u8]) -> bool
+fn goes_on(io: Streams, body: &mut [u8], out: &mut [u8]) -> bool
     requires { (length body.old ≡ 40000) × (length out.old ≡ 65553) }
 {
     let mut op = [0u8; 1];
-    if !is_read(&mut op, 0, 1) {
+    if !is_read(io, &mut op, 0, 1) {
         return false;
     }
-    match case(op[0], body, out) {
+    match case(io, op[0], body, out) {
         Turn::Answered => true,
         Turn::Ended => false,
         Turn::Malformed => {
-            io::write_all(libc::STDERR_FILENO, b"bad case\n");
+            let _ = io.errors.write_all(b"bad case\n");
             false
         }
     }
 }
 
 // A proved loop has to end: this one has more turns than any run uses up.
-fn run(body: &mut [u8], out: &mut [u8])
+fn run(io: Streams, body: &mut [u8], out: &mut [u8])
     requires { (length body.old ≡ 40000) × (length out.old ≡ 65553) }
 {
     for _ in 0..u64::MAX {
-        if !goes_on(body, out) {
+        if !goes_on(io, body, out) {
             return;
         }
     }
 }
 
-fn main() {
+fn main(rt: HostRuntime) {
+    let io = Streams {
+        input: rt.stdin(),
+        output: rt.stdout(),
+        errors: rt.stderr(),
+    };
     let mut body = [0u8; 40000];
     let mut out = [0u8; 65553];
-    run(&mut body, &mut out);
+    run(io, &mut body, &mut out);
 }

@@ -1,12 +1,20 @@
 // Closes a clock of a sheet in its file: close FILE CLOCK
 #![tactic(auto)]
 
+mod temporary;
+
 ghost use Rattle.std.specs.Prelude.{◌≡◌, ◌≤◌, length};
-ghost use Rattle.io.specs.Counts.{IsPrefixLen};
-ghost use Rattle.libc.specs.Io.{Ended};
+ghost use Rattle.terminal.specs.Counts.{Counts};
 
 use numeral::Number;
 use register::Closing;
+use std::fs::{File, OpenFile, OpenOptions};
+use std::io::Write;
+use std::random::RandomSource;
+use std::rt::Files;
+use std::{fs, io};
+use temporary::{create_temp, name_text};
+use terminal::Streams;
 
 // Room for a path and the ending of its temporary file.
 fn temp_space() -> [u8; 4103]
@@ -15,30 +23,17 @@ fn temp_space() -> [u8; 4103]
     [0; 4103]
 }
 
-// A path as C takes it: a 0 stands after it.
-fn ended(path: &[u8]) -> [u8; 4096]
-    ensures { Ended result }
-{
-    let mut name = io::buffer();
-    let mut i: usize = 0;
-    while i < path.len() && i < 4095 {
-        name[i] = path[i];
-        i += 1;
-    }
-    name[4095] = 0;
-    name
-}
-
 // Whether a path names a link: a rename would put the new file in the link's place, and not in that of the file it leads to.
-fn is_link(path: &[u8]) -> bool {
-    let name = ended(path);
-    let mut target = [0u8; 1];
-    0 <= libc::readlink(&name, &mut target)
+fn is_link(rt: &impl Files, path: &str) -> bool {
+    match fs::symlink_metadata(rt, path) {
+        Ok(found) => found.is_symlink(),
+        Err(_) => false,
+    }
 }
 
 // How many bytes of a path name its folder: all up to the last slash.
 fn folder_len(path: &[u8]) -> usize
-    ensures { IsPrefixLen result path.now }
+    ensures { Counts result path.now }
 {
     let mut n = path.len();
     while 0 < n {
@@ -50,105 +45,159 @@ fn folder_len(path: &[u8]) -> usize
     n
 }
 
-fn open_folder(path: &[u8]) -> i32 {
+fn open_folder<R: Files>(rt: &R, path: &[u8]) -> io::Result<R::File> {
     let n = folder_len(path);
     if n == 0 {
-        return os::open_read(b".");
+        return File::open(rt, ".");
     }
-    os::open_read(&path[..n])
+    File::open(rt, name_text(&path[..n])?)
 }
 
 // Has the folder's new entry reach its device too. Where the folder can't be opened, the system does so in its own time.
-fn sync_folder(path: &[u8]) {
-    let fd = open_folder(path);
-    if 0 <= fd {
-        libc::fsync(fd);
-        libc::close(fd);
+fn sync_folder<R: Files>(rt: &R, path: &[u8]) {
+    if let Ok(folder) = open_folder(rt, path) {
+        let _ = folder.sync_all();
     }
 }
 
 // Writes all bytes, waits until they have reached the device, and closes the file.
-fn write_through(fd: i32, bytes: &[u8]) -> bool {
-    let written = io::write_all(fd, bytes);
-    let synced = libc::fsync(fd);
-    let closed = libc::close(fd);
-    written && synced == 0 && closed == 0
+fn write_through<F: OpenFile + Write + Drop>(file: F, bytes: &[u8]) -> io::Result<()> {
+    let mut file = file;
+    let written = file.write_all(bytes);
+    let synced = file.sync_all();
+    synced.and(written)
+}
+
+// Has the temporary file take the old one's place, with these bytes in it.
+fn put_in_place<R: Files>(
+    rt: &R,
+    file: R::File,
+    temp: &[u8],
+    path: &str,
+    bytes: &[u8],
+) -> io::Result<()> {
+    write_through(file, bytes)?;
+    fs::rename(rt, name_text(temp)?, path)
+}
+
+fn unlink(rt: &impl Files, temp: &[u8]) {
+    if let Ok(name) = name_text(temp) {
+        let _ = fs::remove_file(rt, name);
+    }
 }
 
 // Puts a new file with these bytes in the old one's place, at one stroke. Where that fails the old one is as it was.
-fn swap(path: &[u8], temp: &mut [u8], bytes: &[u8]) -> bool {
-    let fd = os::create_temp(temp);
-    if fd < 0 {
-        terminal::complain_of_failure(
-            b"close",
-            path,
-            b"is as it was; expected a folder that takes a new file",
-        );
-        return false;
+fn swap<R: Files + RandomSource>(
+    rt: &R,
+    to: Streams,
+    path: &str,
+    temp: &mut [u8],
+    bytes: &[u8],
+) -> bool {
+    let file = match create_temp(rt, temp) {
+        Ok(file) => file,
+        Err(why) => {
+            terminal::complain_of_failure(
+                to,
+                b"close",
+                path.as_bytes(),
+                b"is as it was; expected a folder that takes a new file",
+                &why,
+            );
+            return false;
+        }
+    };
+    match put_in_place(rt, file, temp, path, bytes) {
+        Ok(()) => {
+            sync_folder(rt, path.as_bytes());
+            true
+        }
+        Err(why) => {
+            terminal::complain_of_failure(
+                to,
+                b"close",
+                path.as_bytes(),
+                b"is as it was; expected room for a new file in its place",
+                &why,
+            );
+            unlink(rt, temp);
+            false
+        }
     }
-    if write_through(fd, bytes) && os::rename(temp, path) == 0 {
-        sync_folder(path);
-        return true;
-    }
-    terminal::complain_of_failure(
-        b"close",
-        path,
-        b"is as it was; expected room for a new file in its place",
-    );
-    os::unlink(temp);
-    false
 }
 
 // The temporary file stands beside the old one, so that a rename can put it there.
-fn replace(path: &[u8], bytes: &[u8]) -> bool
+fn replace<R: Files + RandomSource>(rt: &R, to: Streams, path: &str, bytes: &[u8]) -> bool
     requires { length path.now ≤ 4096 }
 {
     let mut temp = temp_space();
-    let m = line::put_bytes(&mut temp, 0, path);
+    let m = line::put_bytes(&mut temp, 0, path.as_bytes());
     let n = line::put_bytes(&mut temp, m, b".XXXXXX");
-    swap(path, &mut temp[..n], bytes)
+    swap(rt, to, path, &mut temp[..n], bytes)
 }
 
-fn close_in(path: &[u8], sheet: &mut [u8], clock: usize)
+fn close_in<R: Files + RandomSource>(
+    rt: &R,
+    to: Streams,
+    path: &str,
+    sheet: &mut [u8],
+    clock: usize,
+)
     requires { length path.now ≤ 4096 }
 {
     match register::close(sheet, clock) {
         Closing::Refused(number, place) => {
-            terminal::print_refused(b"close", number, place);
+            terminal::print_refused(to, b"close", number, place);
         }
         Closing::Closed(place) => {
             let n = sheet.len();
-            if replace(path, &sheet[..n]) {
-                terminal::print_closed(b"close", clock as u64, place);
+            if replace(rt, to, path, &sheet[..n]) {
+                terminal::print_closed(to, b"close", clock as u64, place);
             }
         }
     }
 }
 
+fn open_update<R: Files>(rt: &R, path: &str) -> io::Result<R::File> {
+    OpenOptions::new().read(true).write(true).open(rt, path)
+}
+
 // The file is opened for writing too, though only read: one that may not be written is not to be replaced.
-fn main() {
-    if !terminal::has_arguments(b"close", 2, 2, b"FILE CLOCK") {
+fn main(rt: HostRuntime) {
+    let to = Streams {
+        out: rt.stdout(),
+        err: rt.stderr(),
+    };
+    if !terminal::has_arguments(&rt, to, b"close", 2, 2, b"FILE CLOCK") {
         return;
     }
-    let mut space = io::buffer();
-    let path = terminal::path_argument(b"close", 1, &mut space);
-    if path.failed {
+    let mut space = [0u8; 4096];
+    let given = terminal::path_argument(&rt, to, b"close", 1, &mut space);
+    if given.failed {
         return;
     }
-    let Number::Is(clock) = terminal::natural_argument(b"close", b"CLOCK", 2) else {
+    let Number::Is(clock) = terminal::natural_argument(&rt, to, b"close", b"CLOCK", 2) else {
         return;
     };
-    let m = path.bytes;
-    if is_link(&space[..m]) {
-        terminal::complain(b"close", b"FILE is a link", b"the file that it leads to");
+    let m = given.bytes;
+    let Some(path) = terminal::path_text(to, b"close", &space[..m]) else {
+        return;
+    };
+    if is_link(&rt, path) {
+        terminal::complain(
+            to,
+            b"close",
+            b"FILE is a link",
+            b"the file that it leads to",
+        );
         return;
     }
-    let fd = os::open_update(&space[..m]);
+    let opened = open_update(&rt, path);
     let mut sheet = terminal::sheet_space();
-    let input = terminal::read_file(b"close", fd, &space[..m], &mut sheet);
+    let input = terminal::read_file(to, b"close", opened, path.as_bytes(), &mut sheet);
     if input.failed {
         return;
     }
     let n = input.bytes;
-    close_in(&space[..m], &mut sheet[..n], clock as usize);
+    close_in(&rt, to, path, &mut sheet[..n], clock as usize);
 }

@@ -4,6 +4,7 @@
 ghost use Rattle.std.specs.Prelude.{◌≡◌, length};
 
 use report::Listed;
+use terminal::Streams;
 
 // Zeros, as many as the longest listing has bytes.
 fn text_space() -> [u8; report::TEXT_MOST]
@@ -13,26 +14,38 @@ fn text_space() -> [u8; report::TEXT_MOST]
 }
 
 // Prints the listing of a sheet, or its refusal.
-fn print_listing(sheet: &[u8]) {
+fn print_listing(to: Streams, sheet: &[u8]) {
     let mut text = text_space();
     match report::list(sheet, &mut text) {
         Listed::Text(n) => {
-            terminal::print(b"listing", &text[..n]);
+            terminal::print(to, b"listing", &text[..n]);
         }
         Listed::Refused(number, place) => {
-            terminal::print_refused(b"listing", number, place);
+            terminal::print_refused(to, b"listing", number, place);
         }
     }
 }
 
-fn main() {
-    if !terminal::has_arguments(b"listing", 0, 0, b"none, and a sheet on standard input") {
+fn main(rt: HostRuntime) {
+    let to = Streams {
+        out: rt.stdout(),
+        err: rt.stderr(),
+    };
+    if !terminal::has_arguments(
+        &rt,
+        to,
+        b"listing",
+        0,
+        0,
+        b"none, and a sheet on standard input",
+    ) {
         return;
     }
     let mut sheet = terminal::sheet_space();
     let input = terminal::read_file(
+        to,
         b"listing",
-        libc::STDIN_FILENO,
+        Ok(rt.stdin()),
         b"standard input",
         &mut sheet,
     );
@@ -40,5 +53,5 @@ fn main() {
         return;
     }
     let n = input.bytes;
-    print_listing(&sheet[..n]);
+    print_listing(to, &sheet[..n]);
 }

@@ -1,10 +1,6 @@
 -- What lies within a list counts bytes at its start.
-use mathlib.Core.Path.{sym}
-use mathlib.Core.List.{List}
-use Prim.Native.Nat.{ℕ, ◌≤◌}
-use lib.ListN.{length}
-use lib.Seq.{length-take-le}
-use Rattle.io.specs.Counts.{IsPrefixLen}
+use Rattle.std.proofs.Common.{ℕ, ◌≤◌, List, length, sym, length-take-le}
+use Rattle.terminal.specs.Counts.{Counts}
 
-pub counted : (n : ℕ) (xs : List ℕ) → n ≤ length xs → IsPrefixLen n xs
+pub counted : (n : ℕ) (xs : List ℕ) → n ≤ length xs → Counts n xs
 counted n xs h = (h, sym (length-take-le n xs h))

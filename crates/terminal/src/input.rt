@@ -1,8 +1,11 @@
 // Whole inputs.
 ghost use Rattle.std.specs.Prelude.{◌≡◌, length};
-ghost use Rattle.io.specs.Counts.{IsPrefixLen};
+ghost use Rattle.terminal.specs.Counts.{Counts};
+ghost use Rattle.std.specs.Io.{ReadsAtMost};
 
-use crate::complaint::complain_of_failure;
+use crate::complaint::{Streams, complain_of_failure};
+use std::io;
+use std::io::Read;
 
 // How many bytes came before the input's end or the slice's. Where it failed, that is 0.
 #[derive(Clone, Copy)]
@@ -18,57 +21,76 @@ pub fn sheet_space() -> [u8; 32769]
     [0; 32769]
 }
 
-// Reads into the slice until it is full or the input ends. Where a read fails, errno tells why.
-pub fn read_whole(fd: i32, bytes: &mut [u8]) -> Input
-    ensures { IsPrefixLen result.bytes bytes.new }
+// Reads into the slice until it is full or the input ends, and answers how many bytes came.
+pub fn read_whole<R: Read>(input: &mut R, bytes: &mut [u8]) -> io::Result<usize>
+    ensures { ReadsAtMost result bytes.new }
 {
     let mut done: usize = 0;
     while done < bytes.len() {
-        let got = libc::read(fd, &mut bytes[done..]);
-        if got < 0 {
-            return Input {
-                bytes: 0,
-                failed: true,
-            };
-        }
-        let more = io::count(got, &bytes[done..]);
+        let more = input.read(&mut bytes[done..])?;
         if more == 0 {
-            return Input {
-                bytes: done,
-                failed: false,
-            };
+            return Ok(done);
         }
         done += more;
     }
-    Input {
-        bytes: done,
-        failed: false,
+    Ok(done)
+}
+
+// Reads an opened file and complains under its name where that, or its opening, failed.
+pub fn read_file<R: Read + Drop>(
+    to: Streams,
+    program: &[u8],
+    opened: io::Result<R>,
+    name: &[u8],
+    bytes: &mut [u8],
+) -> Input
+    ensures { Counts result.bytes bytes.new }
+{
+    match opened {
+        Ok(file) => read_opened(to, program, file, name, bytes),
+        Err(why) => {
+            complain_of_failure(
+                to,
+                program,
+                name,
+                b"could not be opened; expected the file of a sheet",
+                &why,
+            );
+            Input {
+                bytes: 0,
+                failed: true,
+            }
+        }
     }
 }
 
-// Reads an open file, complains under its name where that fails, and closes it.
-pub fn read_file(program: &[u8], fd: i32, name: &[u8], bytes: &mut [u8]) -> Input
-    ensures { IsPrefixLen result.bytes bytes.new }
+fn read_opened<R: Read + Drop>(
+    to: Streams,
+    program: &[u8],
+    file: R,
+    name: &[u8],
+    bytes: &mut [u8],
+) -> Input
+    ensures { Counts result.bytes bytes.new }
 {
-    if fd < 0 {
-        complain_of_failure(
-            program,
-            name,
-            b"could not be opened; expected the file of a sheet",
-        );
-        return Input {
-            bytes: 0,
-            failed: true,
-        };
+    let mut file = file;
+    match read_whole(&mut file, bytes) {
+        Ok(n) => Input {
+            bytes: n,
+            failed: false,
+        },
+        Err(why) => {
+            complain_of_failure(
+                to,
+                program,
+                name,
+                b"could not be read; expected the file of a sheet",
+                &why,
+            );
+            Input {
+                bytes: 0,
+                failed: true,
+            }
+        }
     }
-    let input = read_whole(fd, bytes);
-    if input.failed {
-        complain_of_failure(
-            program,
-            name,
-            b"could not be read; expected the file of a sheet",
-        );
-    }
-    libc::close(fd);
-    input
 }
