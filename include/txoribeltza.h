@@ -1,6 +1,6 @@
 /* Design sheets from C: work out envelopes and links, close and quote clocks, list a sheet, walk patterns.
  *
- * The library (libexport.a, made by `rt staticlib export`, x86-64 Linux) keeps no memory of its own: it has no
+ * The library (libexport.a, made by `rt lib` in crates/export, x86-64 Linux) keeps no memory of its own: it has no
  * state, allocates nothing, and calls nothing but memcpy and memset. Every function returns, for any bytes and
  * any numbers; what it answers and what it writes is proved. Any number of threads may call it at once.
  *

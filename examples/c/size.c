@@ -1,5 +1,5 @@
 /* Works a sheet file out and prints its clocks, its links and its rooms: size SHEET
-   Built by: cc -Iinclude examples/c/size.c target/staticlib/libexport.a -o size */
+   Built by: cc -Iinclude examples/c/size.c crates/export/out/libexport.a -o size */
 #include <inttypes.h>
 #include <stdio.h>
 

@@ -1,5 +1,5 @@
 //! Works a sheet file out and prints its clocks, its links and its rooms: size SHEET
-//! Built without cargo: rustc --edition 2021 examples/rust/main.rs -L target/staticlib -o size
+//! Built without cargo: rustc --edition 2021 examples/rust/main.rs -L crates/export/out -o size
 
 use std::process::ExitCode;
 
