@@ -60,7 +60,7 @@ links_out (got o c) t = flatten link_numbers (rows_of o) ++ drop (3 * length o.s
 links_out (refused number place) t = t
 
 -- the contract of `work_out`: the reply, and what the two lent slices hold at the end
-pub record WorksOut (s : List ℕ) (clocks links : List ℤ) (reply : Reply) (clocks_end Links-End : List ℤ) : Type 0 where
+pub record WorksOut (s : List ℕ) (clocks links : List ℤ) (reply : Reply) (clocks_end links_end : List ℤ) : Type 0 where
   pub reply_is : reply ≡ reply_of (worked_of s (length clocks) (length links))
   pub clocks_are : clocks_end ≡ clocks_out (worked_of s (length clocks) (length links)) clocks
-  pub links_are : Links-End ≡ links_out (worked_of s (length clocks) (length links)) links
+  pub links_are : links_end ≡ links_out (worked_of s (length clocks) (length links)) links

@@ -42,11 +42,11 @@ pub record Ready (t : List ℤ) (ss es : List ℕ) (n : ℕ) : Type 0 where
 
 -- what is given of a sheet whose clocks' nodes, states and links' ends stand in the tables
 abbrev pub Given : List ℤ → List ℕ → List ℕ → List ℤ → List ℤ → Reply → List ℤ → List ℤ → Type 0
-Given t ss es clocks links r clocks_end Links-End =
+Given t ss es clocks links r clocks_end links_end =
     (o : SheetRead) (c : ℕ)
     → nodes_in t ≡ o.table
     → ss ≡ map state_of_clock o.sheet.clocks
     → links_of es ≡ o.sheet.links
     → (r ≡ reply_of (room_for (length clocks) (length links) o c))
     × (clocks_end ≡ clocks_out (room_for (length clocks) (length links) o c) clocks)
-    × (Links-End ≡ links_out (room_for (length clocks) (length links) o c) links)
+    × (links_end ≡ links_out (room_for (length clocks) (length links) o c) links)
