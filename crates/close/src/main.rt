@@ -164,10 +164,7 @@ fn open_update<R: Files>(rt: &R, path: &str) -> io::Result<R::File> {
 
 // The file is opened for writing too, though only read: one that may not be written is not to be replaced.
 fn main(rt: HostRuntime) {
-    let to = Streams {
-        out: rt.stdout(),
-        err: rt.stderr(),
-    };
+    let to = Streams::of(&rt);
     if !terminal::has_arguments(&rt, to, b"close", 2, 2, b"FILE CLOCK") {
         return;
     }

@@ -27,10 +27,7 @@ fn print_listing(to: Streams, sheet: &[u8]) {
 }
 
 fn main(rt: HostRuntime) {
-    let to = Streams {
-        out: rt.stdout(),
-        err: rt.stderr(),
-    };
+    let to = Streams::of(&rt);
     if !terminal::has_arguments(
         &rt,
         to,

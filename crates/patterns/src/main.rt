@@ -128,10 +128,7 @@ fn count_argument(rt: &impl Env, to: Streams) -> Number {
 }
 
 fn main(rt: HostRuntime) {
-    let to = Streams {
-        out: rt.stdout(),
-        err: rt.stderr(),
-    };
+    let to = Streams::of(&rt);
     if !terminal::has_arguments(&rt, to, b"patterns", 5, 6, b"k K l n LENGTH [COUNT]") {
         return;
     }

@@ -36,10 +36,7 @@ fn print_quote(to: Streams, sheet: &[u8], clock: usize)
 }
 
 fn main(rt: HostRuntime) {
-    let to = Streams {
-        out: rt.stdout(),
-        err: rt.stderr(),
-    };
+    let to = Streams::of(&rt);
     if !terminal::has_arguments(&rt, to, b"quote", 2, 2, b"FILE CLOCK") {
         return;
     }

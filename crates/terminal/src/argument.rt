@@ -1,5 +1,6 @@
 // A program's arguments, with a complaint where one will not do.
-ghost use Rattle.std.specs.Prelude.{◌≡◌, IfSome};
+ghost use Rattle.std.specs.Prelude.{◌≡◌, MatchOption};
+ghost use Rattle.std.specs.Str.{IsUtf8};
 ghost use Rattle.terminal.specs.Counts.{Counts};
 
 use crate::complaint::{Streams, complain, complain_of_argument, complain_of_failure};
@@ -67,7 +68,7 @@ pub fn path_argument(
 
 // A path as std takes it, in UTF-8, or a complaint: by other bytes std opens no file.
 pub fn path_text<'a>(to: Streams, program: &[u8], path: &'a [u8]) -> Option<&'a str>
-    ensures { IfSome result (λ text. text.now ≡ path.now) }
+    ensures { MatchOption result (¬ (IsUtf8 path.now)) (λ text. text.now ≡ path.now) }
 {
     match str::from_utf8(path) {
         Ok(text) => Some(text),

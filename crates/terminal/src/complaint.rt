@@ -14,6 +14,15 @@ pub struct Streams {
     pub err: Stderr,
 }
 
+impl Streams {
+    pub fn of(rt: &HostRuntime) -> Streams {
+        Streams {
+            out: rt.stdout(),
+            err: rt.stderr(),
+        }
+    }
+}
+
 // A byte of a name as it is shown: one that would end the line or steer the terminal is a question mark.
 fn shown(b: u8) -> u8 {
     if b < FIRST_PRINTED {
