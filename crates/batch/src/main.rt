@@ -2,16 +2,18 @@
 #![tactic(auto)]
 
 mod answer;
+mod case;
 
-ghost use Rattle.std.specs.Prelude.{◌≡◌, ◌≤◌, length};
+ghost use Rattle.std.specs.Prelude.{◌≡◌, ◌≤◌, ◌≤ℤ◌, pos, negsuc, length};
 
-use answer::{put_all, put_reply};
+use answer::{put_all, put_refusal, put_reply};
+use case::{Ask, Op, Stop, Turn, head, limited, read};
+use envelope::Envelope;
 use field::{HALF_64, from_twos, low_first, put_low_first};
 use pattern::Answer;
-use register::Closing;
-use report::Listed;
-use sizing::Reply as Worked;
-use std::io::{Print, Read, Stderr, Stdin, Stdout};
+use reply::Refusal;
+use sizing::Totals;
+use std::io::Print;
 
 // The most bytes of a sheet or a pattern.
 const BODY: usize = 40_000;
@@ -30,354 +32,209 @@ const REPLY: usize = 9;
 
 const LISTING: usize = 17;
 
-const WORK_OUT: u8 = 1;
+// The most bytes of an answer.
+const ANSWER: usize = 65_553;
 
-const CLOSE: u8 = 2;
+// What a sheet comes to that is refused.
+const NOTHING: Totals = Totals {
+    clocks: 0,
+    links: 0,
+    opened: 0,
+    whole: 0,
+};
 
-const QUOTE: u8 = 3;
-
-const CHECK: u8 = 4;
-
-const FIRST: u8 = 5;
-
-const NEXT: u8 = 6;
-
-const LIST: u8 = 7;
-
-// Where cases come from, and where answers and complaints go.
-#[derive(Clone, Copy)]
-struct Streams {
-    input: Stdin,
-    output: Stdout,
-    errors: Stderr,
+// Writes an answer; where that fails the run ends.
+fn send(rt: &HostRuntime, answer: &[u8]) -> Turn {
+    rt.stdout().write_all(answer).map_err(|_| Stop::Ended)
 }
 
-// What became of a case.
-#[derive(Clone, Copy)]
-enum Turn {
-    Answered,
-    Malformed,
-    Ended,
-}
-
-// Whether the bytes from `from` to `to` could all be read.
-fn is_read(io: Streams, bytes: &mut [u8], from: usize, to: usize) -> bool
-    requires { (from ≤ to) × (to ≤ length bytes.old) }
+// What a lent slice holds before the call: number i is first - i.
+fn lend(numbers: &mut [i64], first: i64)
+    requires { (negsuc 1999 ≤ℤ first) × (first ≤ℤ pos 0) × (length numbers.old ≤ 1024) }
 {
-    let mut input = io.input;
-    input.read_exact(&mut bytes[from..to]).is_ok()
-}
-
-// Writes the first n bytes of an answer; where that fails the run ends.
-fn sent(io: Streams, answer: &[u8], n: usize) -> Turn
-    requires { n ≤ length answer.now }
-{
-    if io.output.write_all(&answer[0..n]).is_ok() {
-        Turn::Answered
-    } else {
-        Turn::Ended
-    }
-}
-
-// What a lent slice holds before the call: number i is -1 - base - i.
-fn lend(numbers: &mut [i64], base: u64)
-    requires { (base ≤ 2000) × (length numbers.old ≤ 1024) }
-{
-    let mut i: usize = 0;
-    while i < numbers.len() {
-        numbers[i] = from_twos(u64::MAX - base - (i as u64), HALF_64);
-        i += 1;
+    for (i, x) in numbers.iter_mut().enumerate() {
+        *x = first - i as i64;
     }
 }
 
 // Puts what `work_out` answers beside the lent numbers: 41 bytes.
-fn put_worked(out: &mut [u8], r: Worked)
+fn put_worked(out: &mut [u8], r: Result<Totals, Refusal>)
     requires { 41 ≤ length out.old }
 {
-    put_reply(out, r.number, r.place as u64);
-    put_low_first(out, 9, 8, r.clocks as u64);
-    put_low_first(out, 17, 8, r.links as u64);
-    put_low_first(out, 25, 8, r.opened);
-    put_low_first(out, 33, 8, r.whole);
+    match r {
+        Ok(_) => put_reply(out, 0, 0),
+        Err(refusal) => put_refusal(out, refusal),
+    }
+    let totals = r.unwrap_or(NOTHING);
+    put_low_first(out, 9, 8, totals.clocks as u64);
+    put_low_first(out, 17, 8, totals.links as u64);
+    put_low_first(out, 25, 8, totals.opened);
+    put_low_first(out, 33, 8, totals.whole);
 }
 
 fn worked_out(
-    io: Streams,
+    rt: &HostRuntime,
     sheet: &[u8],
     clocks: &mut [i64],
     links: &mut [i64],
-    out: &mut [u8],
+    out: &mut [u8; ANSWER],
 ) -> Turn
-    requires { (length clocks.old ≤ 1024) × (length links.old ≤ 1024) × (length out.old ≡ 65553) }
+    requires { (length clocks.old ≤ 1024) × (length links.old ≤ 1024) }
 {
-    let r = sizing::work_out(sheet, clocks, links);
-    put_worked(out, r);
+    put_worked(out, sizing::work_out(sheet, clocks, links));
     let next = put_all(out, 41, clocks);
     let end = put_all(out, next, links);
-    sent(io, out, end)
+    send(rt, &out[..end])
 }
 
-fn work_out(io: Streams, body: &mut [u8], out: &mut [u8]) -> Turn
-    requires { (length body.old ≡ 40000) × (length out.old ≡ 65553) }
-{
-    let mut head = [0u8; 12];
-    if !is_read(io, &mut head, 0, 12) {
-        return Turn::Malformed;
-    }
-    let a = low_first(&head, 0, 4);
-    let b = low_first(&head, 4, 4);
-    let n = low_first(&head, 8, 4);
-    if LENT < a {
-        return Turn::Malformed;
-    }
-    if LENT < b {
-        return Turn::Malformed;
-    }
-    if BODY < n {
-        return Turn::Malformed;
-    }
-    if !is_read(io, body, 0, n) {
-        return Turn::Malformed;
-    }
-    let mut clocks = [0i64; 1024];
-    let mut links = [0i64; 1024];
-    lend(&mut clocks, 999);
-    lend(&mut links, 1999);
-    worked_out(io, &body[0..n], &mut clocks[0..a], &mut links[0..b], out)
+fn work_out(rt: &HostRuntime, body: &mut [u8; BODY], out: &mut [u8; ANSWER]) -> Turn {
+    let head = head::<12>(rt)?;
+    let a = limited(low_first(&head, 0, 4), LENT)?;
+    let b = limited(low_first(&head, 4, 4), LENT)?;
+    let n = limited(low_first(&head, 8, 4), BODY)?;
+    read(rt, &mut body[..n])?;
+    let mut clocks = [0i64; LENT];
+    let mut links = [0i64; LENT];
+    lend(&mut clocks, -1000);
+    lend(&mut links, -2000);
+    worked_out(rt, &body[..n], &mut clocks[..a], &mut links[..b], out)
 }
 
-// Number and place of closing: the place of the byte that it turned, or the refusal's.
-fn put_closing(out: &mut [u8], r: Closing)
-    requires { 9 ≤ length out.old }
-{
-    match r {
-        Closing::Closed(at) => put_reply(out, 0, at as u64),
-        Closing::Refused(number, place) => put_reply(out, number, place as u64),
-    }
-}
-
-fn close(io: Streams, out: &mut [u8]) -> Turn
-    requires { length out.old ≡ 65553 }
-{
-    let mut head = [0u8; 12];
-    if !is_read(io, &mut head, 0, 12) {
-        return Turn::Malformed;
-    }
+// The place of closing is that of the byte that it turned.
+fn close(rt: &HostRuntime, out: &mut [u8; ANSWER]) -> Turn {
+    let head = head::<12>(rt)?;
     let clock = low_first(&head, 0, 8);
-    let n = low_first(&head, 8, 4);
-    if BODY < n {
-        return Turn::Malformed;
+    let end = REPLY + limited(low_first(&head, 8, 4), BODY)?;
+    read(rt, &mut out[REPLY..end])?;
+    match register::close(&mut out[REPLY..end], clock) {
+        Ok(at) => put_reply(out, 0, at as u64),
+        Err(refusal) => put_refusal(out, refusal),
     }
-    let end = REPLY + n;
-    if !is_read(io, out, REPLY, end) {
-        return Turn::Malformed;
-    }
-    let r = register::close(&mut out[REPLY..end], clock);
-    put_closing(out, r);
-    sent(io, out, end)
+    send(rt, &out[..end])
 }
 
 // Number and place of quoting: only a refusal's part is empty, so no other has the sheet read twice.
 fn put_quoting(out: &mut [u8], sheet: &[u8], clock: usize, part: &[u8])
     requires { 9 ≤ length out.old }
 {
-    if part.len() == 0 {
-        let r = register::quote_reply(sheet, clock);
-        put_reply(out, r.number, r.place as u64);
-    } else {
-        put_reply(out, 0, 0);
+    put_reply(out, 0, 0);
+    if part.is_empty() {
+        if let Err(refusal) = register::quote_reply(sheet, clock) {
+            put_refusal(out, refusal);
+        }
     }
 }
 
-// The part is written from where it stands.
-fn quoted(io: Streams, sheet: &[u8], clock: usize, out: &mut [u8]) -> Turn
-    requires { length out.old ≡ 65553 }
-{
+// The part is written from where it stands. Apart from `quote`, since the check does not cover a part of what was lent to be read into.
+fn quoted(rt: &HostRuntime, sheet: &[u8], clock: usize, out: &mut [u8; ANSWER]) -> Turn {
     let part = register::quote(sheet, clock);
     put_quoting(out, sheet, clock, part);
     let end = put_low_first(out, REPLY, 4, part.len() as u64);
-    let Turn::Answered = sent(io, out, end) else {
-        return Turn::Ended;
-    };
-    sent(io, part, part.len())
+    send(rt, &out[..end])?;
+    send(rt, part)
 }
 
-fn quote(io: Streams, body: &mut [u8], out: &mut [u8]) -> Turn
-    requires { (length body.old ≡ 40000) × (length out.old ≡ 65553) }
-{
-    let mut head = [0u8; 12];
-    if !is_read(io, &mut head, 0, 12) {
-        return Turn::Malformed;
-    }
+fn quote(rt: &HostRuntime, body: &mut [u8; BODY], out: &mut [u8; ANSWER]) -> Turn {
+    let head = head::<12>(rt)?;
     let clock = low_first(&head, 0, 8);
-    let n = low_first(&head, 8, 4);
-    if BODY < n {
-        return Turn::Malformed;
-    }
-    if !is_read(io, body, 0, n) {
-        return Turn::Malformed;
-    }
-    quoted(io, &body[0..n], clock, out)
+    let n = limited(low_first(&head, 8, 4), BODY)?;
+    read(rt, &mut body[..n])?;
+    quoted(rt, &body[..n], clock, out)
 }
 
-fn put_answer(out: &mut [u8], answer: Answer)
+fn put_answer(out: &mut [u8], answer: Result<Answer, Refusal>)
     requires { 9 ≤ length out.old }
 {
     match answer {
-        Answer::Inside => put_reply(out, 0, 0),
-        Answer::Done => put_reply(out, 0, 0),
-        Answer::Last => put_reply(out, LAST, 0),
-        Answer::Refused(number, place) => put_reply(out, number, place as u64),
-    }
-}
-
-fn asked(op: u8, k: i64, K: i64, l: u64, n: u64, bits: &mut [u8]) -> Answer {
-    match op {
-        CHECK => pattern::check(k, K, l, n, bits),
-        FIRST => pattern::first(k, K, l, n, bits),
-        _ => pattern::next(k, K, l, n, bits),
+        Ok(Answer::Inside | Answer::Done) => put_reply(out, 0, 0),
+        Ok(Answer::Last) => put_reply(out, LAST, 0),
+        Err(refusal) => put_refusal(out, refusal),
     }
 }
 
 // Asks about the pattern that was read behind the place of the reply. The answer of check ends before it.
-fn walked(io: Streams, op: u8, k: i64, K: i64, l: u64, n: u64, out: &mut [u8], end: usize) -> Turn
-    requires { (9 ≤ end) × (end ≤ length out.old) }
-{
-    let answer = asked(op, k, K, l, n, &mut out[REPLY..end]);
+fn pattern(rt: &HostRuntime, ask: Ask, out: &mut [u8; ANSWER]) -> Turn {
+    let head = head::<36>(rt)?;
+    let e = Envelope {
+        k: from_twos(low_first(&head, 0, 8) as u64, HALF_64),
+        K: from_twos(low_first(&head, 8, 8) as u64, HALF_64),
+        l: low_first(&head, 16, 8) as u64,
+        n: low_first(&head, 24, 8) as u64,
+    };
+    let end = REPLY + limited(low_first(&head, 32, 4), BODY)?;
+    read(rt, &mut out[REPLY..end])?;
+    let bits = &mut out[REPLY..end];
+    let (answer, sent) = match ask {
+        Ask::Check => (pattern::check(e, bits), REPLY),
+        Ask::First => (pattern::first(e, bits), end),
+        Ask::Next => (pattern::next(e, bits), end),
+    };
     put_answer(out, answer);
-    if op == CHECK {
-        return sent(io, out, REPLY);
-    }
-    sent(io, out, end)
-}
-
-fn pattern(io: Streams, op: u8, out: &mut [u8]) -> Turn
-    requires { length out.old ≡ 65553 }
-{
-    let mut head = [0u8; 36];
-    if !is_read(io, &mut head, 0, 36) {
-        return Turn::Malformed;
-    }
-    let k = from_twos(low_first(&head, 0, 8) as u64, HALF_64);
-    let K = from_twos(low_first(&head, 8, 8) as u64, HALF_64);
-    let l = low_first(&head, 16, 8) as u64;
-    let n = low_first(&head, 24, 8) as u64;
-    let m = low_first(&head, 32, 4);
-    if BODY < m {
-        return Turn::Malformed;
-    }
-    let end = REPLY + m;
-    if !is_read(io, out, REPLY, end) {
-        return Turn::Malformed;
-    }
-    walked(io, op, k, K, l, n, out, end)
+    send(rt, &out[..sent])
 }
 
 // What a lent text holds before the call: byte i is i mod 251.
 fn lend_text(text: &mut [u8]) {
-    let mut i: usize = 0;
-    while i < text.len() {
-        text[i] = (i % 251) as u8;
-        i += 1;
+    for (i, b) in text.iter_mut().enumerate() {
+        *b = (i % 251) as u8;
     }
 }
 
-fn put_listed(out: &mut [u8], listed: Listed)
+fn put_listed(out: &mut [u8], listed: Result<usize, Refusal>)
     requires { 17 ≤ length out.old }
 {
     match listed {
-        Listed::Text(n) => {
-            put_reply(out, 0, 0);
-            put_low_first(out, REPLY, 8, n as u64);
-        }
-        Listed::Refused(number, place) => {
-            put_reply(out, number, place as u64);
-            put_low_first(out, REPLY, 8, 0);
-        }
+        Ok(_) => put_reply(out, 0, 0),
+        Err(refusal) => put_refusal(out, refusal),
     }
+    put_low_first(out, REPLY, 8, listed.unwrap_or(0) as u64);
 }
 
-fn list(io: Streams, body: &mut [u8], out: &mut [u8]) -> Turn
-    requires { (length body.old ≡ 40000) × (length out.old ≡ 65553) }
-{
-    let mut head = [0u8; 8];
-    if !is_read(io, &mut head, 0, 8) {
-        return Turn::Malformed;
-    }
-    let c = low_first(&head, 0, 4);
-    let n = low_first(&head, 4, 4);
-    if TEXT < c {
-        return Turn::Malformed;
-    }
-    if BODY < n {
-        return Turn::Malformed;
-    }
-    if !is_read(io, body, 0, n) {
-        return Turn::Malformed;
-    }
-    listed(io, &body[0..n], out, LISTING + c)
-}
-
-// Lists a sheet into the bytes of the answer from the place of the text to `end`.
-fn listed(io: Streams, sheet: &[u8], out: &mut [u8], end: usize) -> Turn
-    requires { (17 ≤ end) × (end ≤ length out.old) }
-{
+// Lists a sheet into the bytes of the answer from the place of the text on.
+fn list(rt: &HostRuntime, body: &mut [u8; BODY], out: &mut [u8; ANSWER]) -> Turn {
+    let head = head::<8>(rt)?;
+    let end = LISTING + limited(low_first(&head, 0, 4), TEXT)?;
+    let n = limited(low_first(&head, 4, 4), BODY)?;
+    read(rt, &mut body[..n])?;
     lend_text(&mut out[LISTING..end]);
-    let r = report::list(sheet, &mut out[LISTING..end]);
-    put_listed(out, r);
-    sent(io, out, end)
+    let listed = report::list(&body[..n], &mut out[LISTING..end]);
+    put_listed(out, listed);
+    send(rt, &out[..end])
 }
 
 // One case, its first byte in op.
-fn case(io: Streams, op: u8, body: &mut [u8], out: &mut [u8]) -> Turn
-    requires { (length body.old ≡ 40000) × (length out.old ≡ 65553) }
-{
-    match op {
-        WORK_OUT => work_out(io, body, out),
-        CLOSE => close(io, out),
-        QUOTE => quote(io, body, out),
-        CHECK | FIRST | NEXT => pattern(io, op, out),
-        LIST => list(io, body, out),
-        _ => Turn::Malformed,
+fn answered(rt: &HostRuntime, op: u8, body: &mut [u8; BODY], out: &mut [u8; ANSWER]) -> Turn {
+    match Op::try_from(op)? {
+        Op::WorkOut => work_out(rt, body, out),
+        Op::Close => close(rt, out),
+        Op::Quote => quote(rt, body, out),
+        Op::Pattern(ask) => pattern(rt, ask, out),
+        Op::List => list(rt, body, out),
     }
 }
 
 // Reads and answers one case, and answers whether to go on.
-fn goes_on(io: Streams, body: &mut [u8], out: &mut [u8]) -> bool
-    requires { (length body.old ≡ 40000) × (length out.old ≡ 65553) }
-{
-    let mut op = [0u8; 1];
-    if !is_read(io, &mut op, 0, 1) {
+fn goes_on(rt: &HostRuntime, body: &mut [u8; BODY], out: &mut [u8; ANSWER]) -> bool {
+    let Ok(op) = head::<1>(rt) else {
         return false;
-    }
-    match case(io, op[0], body, out) {
-        Turn::Answered => true,
-        Turn::Ended => false,
-        Turn::Malformed => {
-            let _ = io.errors.write_all(b"bad case\n");
+    };
+    match answered(rt, op[0], body, out) {
+        Ok(()) => true,
+        Err(Stop::Ended) => false,
+        Err(Stop::Malformed) => {
+            let _ = rt.stderr().write_all(b"bad case\n");
             false
         }
     }
 }
 
 // A proved loop has to end: this one has more turns than any run uses up.
-fn run(io: Streams, body: &mut [u8], out: &mut [u8])
-    requires { (length body.old ≡ 40000) × (length out.old ≡ 65553) }
-{
+fn main(rt: HostRuntime) {
+    let mut body = [0u8; BODY];
+    let mut out = [0u8; ANSWER];
     for _ in 0..u64::MAX {
-        if !goes_on(io, body, out) {
+        if !goes_on(&rt, &mut body, &mut out) {
             return;
         }
     }
-}
-
-fn main(rt: HostRuntime) {
-    let io = Streams {
-        input: rt.stdin(),
-        output: rt.stdout(),
-        errors: rt.stderr(),
-    };
-    let mut body = [0u8; 40000];
-    let mut out = [0u8; 65553];
-    run(io, &mut body, &mut out);
 }

@@ -1,46 +1,43 @@
 -- The three demands are met.
 -- Assumes nothing.
-use mathlib.Core.Path.{◌≡◌, refl, sym, ap, ap₂, ◌∙◌, subst}
-use mathlib.Core.Logic.{◌≢◌, ◌↔◌}
+use mathlib.Core.Path.{◌≡◌, refl, sym, ap, ◌∙◌, subst}
 use mathlib.Core.Bool.{Bool, true, false, cond}
 use mathlib.Core.List.{List, ◌++◌}
 use Prim.Native.Nat.{ℕ, ◌+◌, ◌*◌, ◌≤◌}
-use native.Mathlib.Omega.{arith}
 use lib.IntN.{ℤ}
 use lib.Dec.{leb}
 use lib.ListN.{length, drop}
 use lib.Seq.{sets}
 use Rattle.field.specs.Read.{Read, Read.got, Read.refused}
-use Rattle.field.proofs.Read.{refused_got}
 use Rattle.pattern.specs.declared.Answer.{Answer}
-use Rattle.pattern.specs.declared.Answer.TheVariants.{Refused}
 use Rattle.pattern.specs.Answer.{written, check_answer, first_answer, first_bytes, next_answer, next_bytes}
 use Rattle.envelope.proofs.Theory.{holds}
 use Rattle.link.proofs.Links.{links}
 use Rattle.pattern.proofs.Promises.{patterns}
-use Rattle.sizing.specs.declared.Reply.{Reply}
+use Rattle.std.specs.Prelude.{Result, Ok, Err}
+use Rattle.reply.specs.declared.Refusal.{Refusal}
+use Rattle.reply.specs.Refusal.{refusal}
+use Rattle.sizing.specs.declared.Totals.{Totals}
 use Rattle.sheet.specs.Reader.{read_sheet}
 use Rattle.sheet.specs.SheetRead.{SheetRead}
 use Rattle.sizing.specs.Rooms.{rows_of}
 use Rattle.sizing.specs.WorkOut.{worked_of, reply_of, link_numbers, flatten, clocks_out, links_out, WorksOut}
 use Rattle.sheet.specs.Format.{Passed}
-use Rattle.sizing.specs.Table.{WorkRefused}
 use Rattle.sheet.proofs.Refusing.Format.{listed_refused, passed_accepted, one_passed, passed_or_refused, never_both}
 use Rattle.sheet.proofs.Refusing.Format as Format
 use Rattle.sheet.proofs.Refusing.Numbers.{one_to_ten}
-use Rattle.sizing.proofs.Table.{worked_listed, listed_worked, worked_passed, passed_worked}
+use Rattle.sizing.proofs.Table.{working_exactly, working_accepted, passed_worked}
 use Rattle.sizing.proofs.Served.{meant, served}
-use Rattle.register.specs.Closing.{closing_of, closing_reply, closing_number, closed_bytes}
+use Rattle.register.specs.Closing.{closing_of, closing_reply, closed_bytes}
 use Rattle.register.specs.Quoting.{quoting_of, quoted_from, quoted_part, quote_reply}
 use Rattle.register.proofs.Table.{closing_exactly, quoting_exactly}
 use Rattle.register.proofs.Promise.{close_0, closes, quote_0, quotes, quotes_nothing, any_set, any_order}
-use Rattle.report.specs.declared.Listed.{Listed}
-use Rattle.report.specs.Listing.{sheet_text, listed_in, text_in, listed_of, text_after, listed_number}
+use Rattle.report.specs.Listing.{sheet_text, listed_in, text_in, listed_of, text_after}
 use Rattle.report.proofs.Table.{listing_exactly}
 use Rattle.report.proofs.Promise.{listing}
 use Rattle.demands.specs.Entry.{Fixed}
 use Rattle.demands.proofs.Slices.{accepted_at, listing_fits}
-use Rattle.demands.specs.Demands.{NoTotals, Demand1, Demand2, Demand3}
+use Rattle.demands.specs.Demands.{Demand1, Demand2, Demand3}
 
 -- ---- "a fixed reply": a contract that gives each part by an equation is satisfied by those parts and by no others
 fixed : {A : Type 0} (Contract : A → Type 0) (a : A) → Contract a → ((b : A) → Contract b → b ≡ a) → Fixed Contract
@@ -53,47 +50,24 @@ triple : {A B C : Type 0} {a x : A} {b y : B} {c z : C} → a ≡ x → b ≡ y 
 triple p q r = λ i. (p i, q i, r i)
 
 -- ---- "untouched"
-untouched : (w : Read SheetRead) (clocks links : List ℤ) → (reply_of w).number ≢ 0 → (clocks_out w clocks ≡ clocks) × (links_out w links ≡ links) × NoTotals (reply_of w)
-untouched (got o c) clocks links h = absurd (h refl)
-untouched (refused number place) clocks links h =
-    (refl, refl, record { clocks = refl; links = refl; opened = refl; whole = refl })
+untouched : (w : Read SheetRead) (clocks links : List ℤ) (e : Refusal) → reply_of w ≡ Err e → (clocks_out w clocks ≡ clocks) × (links_out w links ≡ links)
+untouched (got o c) clocks links e h = absurd (cc)
+untouched (refused number place) clocks links e h = (refl, refl)
 
-unclosed : (r : Read ℕ) (s : List ℕ) → closing_number (closing_reply r) ≢ 0 → closed_bytes r s ≡ s
-unclosed (got place c) s h = absurd (h refl)
-unclosed (refused number place) s h = refl
+unclosed : (r : Read ℕ) (s : List ℕ) (e : Refusal) → closing_reply r ≡ Err e → closed_bytes r s ≡ s
+unclosed (got place c) s e h = absurd (cc)
+unclosed (refused number place) s e h = refl
 
-unwritten : {a : Answer} (number place : ℕ) (q p : List ℕ) → Refused number place ≡ a → written a q p ≡ p
-unwritten number place q p h = rw (← h)
+unwritten : {a : Result Answer Refusal} (r : Refusal) (q p : List ℕ) → Err r ≡ a → written a q p ≡ p
+unwritten r q p h = rw (← h)
 
-unlisted : (x : Read SheetRead) (r : Listed) (t : List ℕ) → r ≡ listed_in x (length t) → listed_number r ≢ 0 → text_in x t ≡ t
-unlisted (got o c) r t e n = go (leb (length (sheet_text o)) (length t)) e
+unlisted : (x : Read SheetRead) (t : List ℕ) (e : Refusal) → listed_in x (length t) ≡ Err e → text_in x t ≡ t
+unlisted (got o c) t e h = go (leb (length (sheet_text o)) (length t)) h
   where
-    go : (b : Bool) → r ≡ cond b (Listed.Text (length (sheet_text o))) (Listed.Refused 11 0) → cond b (sets t 0 (sheet_text o)) t ≡ t
-    go true e = absurd (n (ap listed_number e))
-    go false e = refl
-unlisted (refused number place) r t e n = refl
-
--- ---- "its number and place"
-then : {A B C : Type 0} → A ↔ B → B ↔ C → A ↔ C
-then f g = (λ a. g.0 (f.0 a), λ c. f.1 (g.1 c))
-
--- a refusal's number and place are those of what was worked out
-replied : (w : Read SheetRead) (number place : ℕ) → number ≢ 0 → (((reply_of w).number ≡ number) × ((reply_of w).place ≡ place)) ↔ (w ≡ refused number place)
-replied (got o c) number place n = (λ h. absurd (n (sym h.0)), λ h. refused_got (sym h))
-replied (refused m q) number place n = (λ h. ap₂ {A = ℕ} {B = ℕ} {C = Read SheetRead} (λ x y. refused x y) h.0 h.1, λ h. (cc, cc))
-
--- no refusal is 0
-not_0 : (s : List ℕ) (clocks links number place : ℕ) → WorkRefused s clocks links number place → number ≢ 0
-not_0 s clocks links number place (WorkRefused.in_sheet r) z = omega (arith, one_to_ten s number place (listed_refused s r), z)
-not_0 s clocks links _ _ (WorkRefused.too_short o p l) z = omega arith
-
-accepted_0 : (s : List ℕ) (clocks links : ℕ) → (reply_of (worked_of s clocks links)).number ≡ 0
-    → (o : SheetRead) × Passed s o × (4 * length o.table ≤ clocks) × (3 * length o.sheet.links ≤ links)
-accepted_0 s clocks links z = go (worked_of s clocks links) refl z
-  where
-    go : (w : Read SheetRead) → worked_of s clocks links ≡ w → (reply_of w).number ≡ 0 → (o : SheetRead) × Passed s o × (4 * length o.table ≤ clocks) × (3 * length o.sheet.links ≤ links)
-    go (got o c) e z = let p = worked_passed s clocks links o c e in (o, p.0, p.2, p.3)
-    go (refused number place) e z = absurd (not_0 s clocks links number place (worked_listed s clocks links number place e) z)
+    go : (b : Bool) → cond b (Ok (length (sheet_text o))) (Err (refusal 11 0)) ≡ Err e → cond b (sets t 0 (sheet_text o)) t ≡ t
+    go true h = absurd (cc)
+    go false h = refl
+unlisted (refused number place) t e h = refl
 
 pub demand_1 : Demand1
 unfolding first_bytes next_bytes listed_of text_after
@@ -125,26 +99,22 @@ demand_1 =
       one_sheet = one_passed;
       one_refusal = λ s number number' place place'. Format.one_refusal s;
       one_to_ten = λ s number place r. one_to_ten s number place (listed_refused s r);
-      work_out_refused = λ s clocks links r cs ls h number place n.
-          rw h.reply_is
-          (then (replied (worked_of s (length clocks) (length links)) number place n) (worked_listed s (length clocks) (length links) number place, listed_worked s (length clocks) (length links)));
-      work_out_0 = λ s clocks links r cs ls h.
-          rw h.reply_is
-          (accepted_0 s (length clocks) (length links), λ p. ap (λ (w : Read SheetRead). (reply_of w).number) (passed_worked s (length clocks) (length links) p.0 (length s) (p.1, refl, p.2, p.3)));
-      list_refused = λ s t u r h number place n. rw h.answer_is (listing_exactly s (length t) number place n);
+      work_out_refused = λ s clocks links r cs ls h number place. rw h.reply_is (working_exactly s (length clocks) (length links) number place);
+      work_out_0 = λ s clocks links r cs ls h. rw h.reply_is (working_accepted s (length clocks) (length links));
+      list_refused = λ s t u r h number place. rw h.answer_is (listing_exactly s (length t) number place);
       check_refused = λ e p a h number place. rw h.answer_is ((patterns.refusals e p).check number place);
       first_refused = λ e p a q h number place. rw h.answer_is ((patterns.refusals e p).first number place);
       next_refused = λ e p a q h number place. rw h.answer_is ((patterns.refusals e p).next number place);
-      close_refused = λ s i r t h number place n. rw h.reply_is (closing_exactly s i number place n);
+      close_refused = λ s i r t h number place. rw h.reply_is (closing_exactly s i number place);
       close_0 = close_0;
-      quote_refused = λ s i r h number place n. rw h.reply_is (quoting_exactly s i number place n);
+      quote_refused = λ s i r h number place. rw h.reply_is (quoting_exactly s i number place);
       quote_0 = quote_0;
-      work_out_untouched = λ s clocks links r cs ls h n.
-          rw (h.clocks_are, h.links_are, h.reply_is) (untouched (worked_of s (length clocks) (length links)) clocks links (λ z. n (ap (λ (q : Reply). q.number) h.reply_is ∙ z)));
-      close_untouched = λ s i r t h n. h.bytes_are ∙ unclosed (closing_of s i) s (λ z. n (ap closing_number h.reply_is ∙ z));
-      first_untouched = λ e p number place q h. h.bytes_are ∙ unwritten number place _ p h.answer_is;
-      next_untouched = λ e p number place q h. h.bytes_are ∙ unwritten number place _ p h.answer_is;
-      list_untouched = λ s t u r h n. h.text_is ∙ unlisted (read_sheet s) r t h.answer_is n;
+      work_out_untouched = λ s clocks links r cs ls h e is.
+          rw (h.clocks_are, h.links_are) (untouched (worked_of s (length clocks) (length links)) clocks links e (sym h.reply_is ∙ is));
+      close_untouched = λ s i r t h e is. h.bytes_are ∙ unclosed (closing_of s i) s e (sym h.reply_is ∙ is);
+      first_untouched = λ e p r q h. h.bytes_are ∙ unwritten r _ p h.answer_is;
+      next_untouched = λ e p r q h. h.bytes_are ∙ unwritten r _ p h.answer_is;
+      list_untouched = λ s t u r h e is. h.text_is ∙ unlisted (read_sheet s) t e (sym h.answer_is ∙ is);
     }
 
 -- ---- what is given of a sheet that passes
@@ -161,14 +131,8 @@ demand_2 =
       verdicts = λ o l x y p q. rw (p, q);
       sizes = links.size;
       given = λ s clocks links r cs ls h o p x y.
-          let w = passed_worked s (length clocks) (length links) o (length s) (p, refl, x, y) in
-          let q : r ≡ reply_of (got o (length s)) = h.reply_is ∙ ap reply_of w in (
-            ap (λ (a : Reply). a.number) q,
-            ap (λ (a : Reply). a.place) q,
-            ap (λ (a : Reply). a.clocks) q,
-            ap (λ (a : Reply). a.links) q,
-            ap (λ (a : Reply). a.opened) q,
-            ap (λ (a : Reply). a.whole) q,
+          let w = passed_worked s (length clocks) (length links) o (length s) (p, refl, x, y) in (
+            h.reply_is ∙ ap reply_of w,
             h.clocks_are ∙ ap (λ (a : Read SheetRead). clocks_out a clocks) w,
             h.links_are ∙ ap (λ (a : Read SheetRead). links_out a links) w,
           );
@@ -182,12 +146,12 @@ demand_2 =
     }
 
 -- ---- the sizes given
-links_out_lem : (s : List ℕ) (clocks links : List ℤ) (r : Reply) (cs ls : List ℤ) → WorksOut s clocks links r cs ls → r.number ≡ 0 → (o : SheetRead) → Passed s o
+links_out_lem : (s : List ℕ) (clocks links : List ℤ) (r : Result Totals Refusal) (cs ls : List ℤ) → WorksOut s clocks links r cs ls → (t : Totals) → r ≡ Ok t → (o : SheetRead) → Passed s o
     → ls ≡ flatten link_numbers (rows_of o) ++ drop (3 * length o.sheet.links) links
-links_out_lem s clocks links r cs ls h z o p =
-    let a = accepted_0 s (length clocks) (length links) (ap (λ (x : Reply). x.number) (sym h.reply_is) ∙ z) in
-    let is : a.0 ≡ o = one_passed s a.0 o a.1 p in
-    let fits = subst (λ (x : SheetRead). (4 * length x.table ≤ length clocks) × (3 * length x.sheet.links ≤ length links)) is (a.2, a.3) in
+links_out_lem s clocks links r cs ls h t is o p =
+    let a = (working_accepted s (length clocks) (length links)).0 (t, sym h.reply_is ∙ is) in
+    let same : a.0 ≡ o = one_passed s a.0 o a.1 p in
+    let fits = subst (λ (x : SheetRead). (4 * length x.table ≤ length clocks) × (3 * length x.sheet.links ≤ length links)) same (a.2, a.3) in
     h.links_are
     ∙ ap (λ (x : Read SheetRead). links_out x links) (passed_worked s (length clocks) (length links) o (length s) (p, refl, fits.0, fits.1))
 
@@ -196,7 +160,7 @@ demand_3 =
     record {
       walk = patterns.walk;
       inside = λ e t p a h. rw h.answer_is (patterns.inside e t p);
-      links = λ s bytes clocks links r cs ls h z o p m l e zero_at size size_at.
+      links = λ s bytes clocks links r cs ls h t is o p m l e zero_at size size_at.
           (served s bytes).serves o (length s) (read s o p) m l size e
-          (accepted_at o (drop (3 * length o.sheet.links) links) ls (links_out_lem s clocks links r cs ls h z o p) m l e zero_at size size_at);
+          (accepted_at o (drop (3 * length o.sheet.links) links) ls (links_out_lem s clocks links r cs ls h t is o p) m l e zero_at size size_at);
     }

@@ -18,7 +18,8 @@ use Rattle.sizing.specs.Rooms.{row_of, verdict_in}
 use Rattle.sizing.specs.WorkOut.{link_numbers, flatten}
 use Rattle.sheet.specs.Format.{Passed}
 use Rattle.sheet.proofs.Refusing.Format.{passed_accepted}
-use Rattle.report.specs.declared.Listed.{Listed}
+use Rattle.std.specs.Prelude.{Result, Ok}
+use Rattle.reply.specs.declared.Refusal.{Refusal}
 use Rattle.report.specs.Listing.{sheet_text, listed_of, text_after, ListsInto}
 
 -- ---- link m: its verdict's number and its size
@@ -26,7 +27,7 @@ row_at : (o : SheetRead) (ls : List Link) (m : ℕ) (l : Link) (tail : List ℤ)
     → (get_or (flatten link_numbers (map (row_of o) ls) ++ tail) (3 * m) (pos 0) ≡ pos (verdict_number (verdict_in o.table l)))
     × (get_or (flatten link_numbers (map (row_of o) ls) ++ tail) (3 * m + 1) (pos 0) ≡ pos (size_in (verdict_in o.table l)))
 unfolding flatten
-row_at o [] m l tail e = let w : ◌≡◌ {A = ℕ} 0 1 = cc in absurd (omega arith)
+row_at o [] m l tail e = absurd (cc)
 row_at o (k ∷ ls) zero l tail e = let is : k ≡ l = cc in
     rw is (refl, refl)
 row_at o (k ∷ ls) (suc m) l tail e =
@@ -39,8 +40,8 @@ row_at o (k ∷ ls) (suc m) l tail e =
 accepted : (v : Verdict) (size : ℕ) → pos (verdict_number v) ≡ pos 0 → pos (size_in v) ≡ pos size → v ≡ Accepted size
 accepted (Accepted k) size p q = let is : k ≡ size = cc in
     ap Accepted is
-accepted Rates size p q = let w : ◌≡◌ {A = ℕ} 1 0 = cc in absurd (omega arith)
-accepted Early size p q = let w : ◌≡◌ {A = ℕ} 2 0 = cc in absurd (omega arith)
+accepted Rates size p q = absurd (cc)
+accepted Early size p q = absurd (cc)
 
 pub accepted_at : (o : SheetRead) (tail ls : List ℤ) → ls ≡ flatten link_numbers (map (row_of o) o.sheet.links) ++ tail → (m : ℕ) (l : Link) → get_elem? o.sheet.links m ≡ some l
     → get_or ls (3 * m) (pos 0) ≡ pos 0 → (size : ℕ) → get_or ls (3 * m + 1) (pos 0) ≡ pos size → verdict_in o.table l ≡ Accepted size
@@ -51,8 +52,8 @@ accepted_at o tail ls is m l e zero_at size size_at =
     (cc (row.1, size_at, ap (λ (x : List ℤ). get_or x (3 * m + 1) (pos 0)) is))
 
 -- ---- a listing that fits
-pub listing_fits : (s : List ℕ) (o : SheetRead) → Passed s o → (t u : List ℕ) (r : Listed) → ListsInto s t r u → length (sheet_text o) ≤ length t
-    → (r ≡ Listed.Text (length (sheet_text o))) × (u ≡ sheet_text o ++ drop (length (sheet_text o)) t)
+pub listing_fits : (s : List ℕ) (o : SheetRead) → Passed s o → (t u : List ℕ) (r : Result ℕ Refusal) → ListsInto s t r u → length (sheet_text o) ≤ length t
+    → (r ≡ Ok (length (sheet_text o))) × (u ≡ sheet_text o ++ drop (length (sheet_text o)) t)
 unfolding listed_of text_after
 listing_fits s o passed t u r h fits =
     let read = passed_accepted s o (length s) passed refl in (

@@ -6,15 +6,15 @@
 --   envelopes and their rules: whole/specs/{Rounding, Euclid, Order}, envelope/specs/{Limits, Envelope, Word, Made}, expression/specs/Evaluate
 --   streams and what a clock can stand for: envelope/specs/Stream, expression/specs/Stands
 --   links, rooms and the result slices: link/specs/{Link, Promise}, sizing/specs/{Rooms, Table, WorkOut, Promise}
---   closing and quoting: register/specs/{Closing, Table, Promise}
+--   closing and quoting: register/specs/{Table, Promise}
 --   patterns: pattern/specs/{Step, Pattern, Beginning, Table, Walk}
 --   the listing: line/specs/{Letters, Text}, report/specs/{Listing, Table}
---   "fixed": demands/specs/Entry
--- and the types that are passed, in the src/ of envelope, link, pattern, register, report and sizing.
+--   "fixed": demands/specs/Entry; a refusal's number: reply/specs/{Numbers, Refusal}
+-- and the types that are passed, in the src/ of reply, envelope, expression, link, pattern and sizing.
 -- The contracts of the entry points need not be believed: the fields say what each gives, both ways. src/lib.rt has each entry point behind its contract.
 -- What only inner functions and proofs use stands in specs/Inner.
 -- That every function ends and never does anything undefined is part of every contract's proof and needs no statement.
-use Rattle.std.specs.Prelude.{◌≡◌, ◌⊎◌, ◌≢◌, ◌↔◌, List, [], ◌++◌, ℕ, ◌+◌, ◌*◌, ◌≤◌, ◌<◌, ℤ, pos, length, drop, get_or}
+use Rattle.std.specs.Prelude.{◌≡◌, ◌⊎◌, ◌↔◌, List, [], ◌++◌, ℕ, ◌+◌, ◌*◌, ◌≤◌, ◌<◌, ℤ, pos, length, drop, get_or, Result, Ok, Err}
 use Rattle.std.proofs.Math.Option.{some}
 use Rattle.std.proofs.Math.ListN.{get_elem?}
 use Rattle.field.specs.Spelling.{AllBytes}
@@ -26,14 +26,16 @@ use Rattle.link.specs.declared.Verdict.TheVariants.{Accepted}
 use Rattle.link.specs.Link.{size_of, verdict_of}
 use Rattle.link.specs.Promise.{Serves}
 use Rattle.pattern.specs.declared.Answer.{Answer}
-use Rattle.pattern.specs.declared.Answer.TheVariants.{Inside, Refused}
+use Rattle.pattern.specs.declared.Answer.TheVariants.{Inside}
 use Rattle.pattern.specs.Beginning.{Begins}
 use Rattle.pattern.specs.Answer.{Checks, Firsts, Nexts}
 use Rattle.pattern.specs.Table.{Unfit, Refuses}
 use Rattle.pattern.specs.Walk.{Walks}
 use Rattle.expression.specs.Expression.{Expr}
 use Rattle.expression.specs.Stands.{Stands}
-use Rattle.sizing.specs.declared.Reply.{Reply}
+use Rattle.reply.specs.declared.Refusal.{Refusal}
+use Rattle.reply.specs.Refusal.{RefusedWith}
+use Rattle.sizing.specs.declared.Totals.{Totals}
 use Rattle.sheet.specs.Sheet.{Link}
 use Rattle.sheet.specs.SheetRead.{SheetRead}
 use Rattle.sheet.specs.Format.{Refused as SheetRefused, Passed}
@@ -41,37 +43,27 @@ use Rattle.sizing.specs.Table.{WorkRefused}
 use Rattle.sizing.specs.Rooms.{row_of, rows_of, open_room, whole_room}
 use Rattle.sizing.specs.WorkOut.{clock_numbers, link_numbers, flatten, WorksOut}
 use Rattle.sizing.specs.Promise.{StreamOf}
-use Rattle.register.specs.declared.Closing.{Closing}
-use Rattle.register.specs.declared.QuoteReply.{QuoteReply}
-use Rattle.register.specs.Closing.{closing_number, closing_place, Closes}
+use Rattle.register.specs.Closing.{Closes}
 use Rattle.register.specs.Quoting.{Quotes, RepliesTo}
 use Rattle.register.specs.Table.{HasMark, QuoteRefused, CloseRefused}
 use Rattle.register.specs.Promise.{Alters, OneClosed, ClosedInTurn, among, Quoted}
-use Rattle.report.specs.declared.Listed.{Listed}
-use Rattle.report.specs.Listing.{sheet_text, listed_number, listed_place, ListsInto}
+use Rattle.report.specs.Listing.{sheet_text, ListsInto}
 use Rattle.report.specs.Table.{ListRefused}
 use Rattle.demands.specs.Entry.{Fixed}
-
--- every count and total is 0
-pub record NoTotals (r : Reply) : Type 0 where
-  pub clocks : r.clocks ≡ 0
-  pub links : r.links ≡ 0
-  pub opened : r.opened ≡ 0
-  pub whole : r.whole ≡ 0
 
 -- "1. Every sheet, envelope and pattern, however damaged, gets an ending and a fixed reply. Entry points test their own input, and a refusal
 -- gives its number and place and leaves lent memory untouched."
 pub record Demand1 : Type 0 where
   -- "Every sheet .. gets .. a fixed reply": s is any list of bytes, the slices are of any length
-  pub work_out_fixed : (s : List ℕ) (clocks links : List ℤ) → Fixed (λ (a : Reply × List ℤ × List ℤ). WorksOut s clocks links a.0 a.1 a.2)
-  pub close_fixed : (s : List ℕ) (i : ℕ) → Fixed (λ (a : Closing × List ℕ). Closes s i a.0 a.1)
+  pub work_out_fixed : (s : List ℕ) (clocks links : List ℤ) → Fixed (λ (a : Result Totals Refusal × List ℤ × List ℤ). WorksOut s clocks links a.0 a.1 a.2)
+  pub close_fixed : (s : List ℕ) (i : ℕ) → Fixed (λ (a : Result ℕ Refusal × List ℕ). Closes s i a.0 a.1)
   pub quote_fixed : (s : List ℕ) (i : ℕ) (at : ℕ × ℕ) → Fixed (λ (a : List ℕ × (ℕ × ℕ)). Quotes s i at a.0 a.1)
-  pub quote_reply_fixed : (s : List ℕ) (i : ℕ) → Fixed (λ (a : QuoteReply). RepliesTo s i a)
-  pub list_fixed : (s t : List ℕ) → Fixed (λ (a : Listed × List ℕ). ListsInto s t a.0 a.1)
+  pub quote_reply_fixed : (s : List ℕ) (i : ℕ) → Fixed (λ (a : Result (Unit {0}) Refusal). RepliesTo s i a)
+  pub list_fixed : (s t : List ℕ) → Fixed (λ (a : Result ℕ Refusal × List ℕ). ListsInto s t a.0 a.1)
   -- "envelope and pattern": e is any four numbers, p any bytes
-  pub check_fixed : (e : Envelope) (p : List ℕ) → Fixed (λ (a : Answer). Checks e p a)
-  pub first_fixed : (e : Envelope) (p : List ℕ) → Fixed (λ (a : Answer × List ℕ). Firsts e p a.0 a.1)
-  pub next_fixed : (e : Envelope) (p : List ℕ) → Fixed (λ (a : Answer × List ℕ). Nexts e p a.0 a.1)
+  pub check_fixed : (e : Envelope) (p : List ℕ) → Fixed (λ (a : Result Answer Refusal). Checks e p a)
+  pub first_fixed : (e : Envelope) (p : List ℕ) → Fixed (λ (a : Result Answer Refusal × List ℕ). Firsts e p a.0 a.1)
+  pub next_fixed : (e : Envelope) (p : List ℕ) → Fixed (λ (a : Result Answer Refusal × List ℕ). Nexts e p a.0 a.1)
   -- "a refusal gives its number and place": "Reply numbers", each given exactly when the table says, at its place. A sheet passes or is refused with one of
   -- 1 to 10, and not both; it is one sheet, and there is one refusal
   pub passed_or_refused : (s : List ℕ) → ((o : SheetRead) × Passed s o) ⊎ ((number : ℕ) × (place : ℕ) × SheetRefused s number place)
@@ -79,31 +71,31 @@ pub record Demand1 : Type 0 where
   pub one_sheet : (s : List ℕ) (o o' : SheetRead) → Passed s o → Passed s o' → o ≡ o'
   pub one_refusal : (s : List ℕ) (number number' place place' : ℕ) → SheetRefused s number place → SheetRefused s number' place' → (number ≡ number') × (place ≡ place')
   pub one_to_ten : (s : List ℕ) (number place : ℕ) → SheetRefused s number place → (1 ≤ number) × (number ≤ 10)
-  -- 1 to 11; and 0 only where the sheet passes and both slices are long enough
-  pub work_out_refused : (s : List ℕ) (clocks links : List ℤ) (r : Reply) (cs ls : List ℤ) → WorksOut s clocks links r cs ls → (number place : ℕ) → number ≢ 0
-      → ((r.number ≡ number) × (r.place ≡ place)) ↔ WorkRefused s (length clocks) (length links) number place
-  pub work_out_0 : (s : List ℕ) (clocks links : List ℤ) (r : Reply) (cs ls : List ℤ) → WorksOut s clocks links r cs ls
-      → (r.number ≡ 0) ↔ ((o : SheetRead) × Passed s o × (4 * length o.table ≤ length clocks) × (3 * length o.sheet.links ≤ length links))
-  pub list_refused : (s t u : List ℕ) (r : Listed) → ListsInto s t r u → (number place : ℕ) → number ≢ 0
-      → ((listed_number r ≡ number) × (listed_place r ≡ place)) ↔ ListRefused s (length t) number place
+  -- 1 to 11; and totals only where the sheet passes and both slices are long enough
+  pub work_out_refused : (s : List ℕ) (clocks links : List ℤ) (r : Result Totals Refusal) (cs ls : List ℤ) → WorksOut s clocks links r cs ls → (number place : ℕ)
+      → RefusedWith r number place ↔ WorkRefused s (length clocks) (length links) number place
+  pub work_out_0 : (s : List ℕ) (clocks links : List ℤ) (r : Result Totals Refusal) (cs ls : List ℤ) → WorksOut s clocks links r cs ls
+      → ((t : Totals) × (r ≡ Ok t)) ↔ ((o : SheetRead) × Passed s o × (4 * length o.table ≤ length clocks) × (3 * length o.sheet.links ≤ length links))
+  pub list_refused : (s t u : List ℕ) (r : Result ℕ Refusal) → ListsInto s t r u → (number place : ℕ)
+      → RefusedWith r number place ↔ ListRefused s (length t) number place
   -- 12 to 15
-  pub check_refused : (e : Envelope) (p : List ℕ) (a : Answer) → Checks e p a → (number place : ℕ) → (a ≡ Refused number place) ↔ Refuses e p number place
-  pub first_refused : (e : Envelope) (p : List ℕ) (a : Answer) (q : List ℕ) → Firsts e p a q → (number place : ℕ) → (a ≡ Refused number place) ↔ Unfit e p number place
-  pub next_refused : (e : Envelope) (p : List ℕ) (a : Answer) (q : List ℕ) → Nexts e p a q → (number place : ℕ) → (a ≡ Refused number place) ↔ Refuses e p number place
+  pub check_refused : (e : Envelope) (p : List ℕ) (a : Result Answer Refusal) → Checks e p a → (number place : ℕ) → RefusedWith a number place ↔ Refuses e p number place
+  pub first_refused : (e : Envelope) (p : List ℕ) (a : Result Answer Refusal) (q : List ℕ) → Firsts e p a q → (number place : ℕ) → RefusedWith a number place ↔ Unfit e p number place
+  pub next_refused : (e : Envelope) (p : List ℕ) (a : Result Answer Refusal) (q : List ℕ) → Nexts e p a q → (number place : ℕ) → RefusedWith a number place ↔ Refuses e p number place
   -- 16 and 17
-  pub close_refused : (s : List ℕ) (i : ℕ) (r : Closing) (t : List ℕ) → Closes s i r t → (number place : ℕ) → number ≢ 0
-      → ((closing_number r ≡ number) × (closing_place r ≡ place)) ↔ CloseRefused s i number place
-  pub close_0 : (s : List ℕ) → AllBytes s → (i : ℕ) (r : Closing) (t : List ℕ) → Closes s i r t → (closing_number r ≡ 0) ↔ ((o : SheetRead) × Passed s o × HasMark o i 0)
-  pub quote_refused : (s : List ℕ) (i : ℕ) (r : QuoteReply) → RepliesTo s i r → (number place : ℕ) → number ≢ 0
-      → ((r.number ≡ number) × (r.place ≡ place)) ↔ QuoteRefused s i number place
-  pub quote_0 : (s : List ℕ) → AllBytes s → (i : ℕ) (r : QuoteReply) → RepliesTo s i r → (r.number ≡ 0) ↔ ((o : SheetRead) × Passed s o × (i < length o.sheet.clocks))
+  pub close_refused : (s : List ℕ) (i : ℕ) (r : Result ℕ Refusal) (t : List ℕ) → Closes s i r t → (number place : ℕ)
+      → RefusedWith r number place ↔ CloseRefused s i number place
+  pub close_0 : (s : List ℕ) → AllBytes s → (i : ℕ) (r : Result ℕ Refusal) (t : List ℕ) → Closes s i r t → ((place : ℕ) × (r ≡ Ok place)) ↔ ((o : SheetRead) × Passed s o × HasMark o i 0)
+  pub quote_refused : (s : List ℕ) (i : ℕ) (r : Result (Unit {0}) Refusal) → RepliesTo s i r → (number place : ℕ)
+      → RefusedWith r number place ↔ QuoteRefused s i number place
+  pub quote_0 : (s : List ℕ) → AllBytes s → (i : ℕ) (r : Result (Unit {0}) Refusal) → RepliesTo s i r → (r ≡ Ok tt) ↔ ((o : SheetRead) × Passed s o × (i < length o.sheet.clocks))
   -- "a refusal .. leaves lent memory untouched"
-  pub work_out_untouched : (s : List ℕ) (clocks links : List ℤ) (r : Reply) (cs ls : List ℤ) → WorksOut s clocks links r cs ls → r.number ≢ 0
-      → (cs ≡ clocks) × (ls ≡ links) × NoTotals r
-  pub close_untouched : (s : List ℕ) (i : ℕ) (r : Closing) (t : List ℕ) → Closes s i r t → closing_number r ≢ 0 → t ≡ s
-  pub first_untouched : (e : Envelope) (p : List ℕ) (number place : ℕ) (q : List ℕ) → Firsts e p (Refused number place) q → q ≡ p
-  pub next_untouched : (e : Envelope) (p : List ℕ) (number place : ℕ) (q : List ℕ) → Nexts e p (Refused number place) q → q ≡ p
-  pub list_untouched : (s t u : List ℕ) (r : Listed) → ListsInto s t r u → listed_number r ≢ 0 → u ≡ t
+  pub work_out_untouched : (s : List ℕ) (clocks links : List ℤ) (r : Result Totals Refusal) (cs ls : List ℤ) → WorksOut s clocks links r cs ls → (e : Refusal) → r ≡ Err e
+      → (cs ≡ clocks) × (ls ≡ links)
+  pub close_untouched : (s : List ℕ) (i : ℕ) (r : Result ℕ Refusal) (t : List ℕ) → Closes s i r t → (e : Refusal) → r ≡ Err e → t ≡ s
+  pub first_untouched : (e : Envelope) (p : List ℕ) (r : Refusal) (q : List ℕ) → Firsts e p (Err r) q → q ≡ p
+  pub next_untouched : (e : Envelope) (p : List ℕ) (r : Refusal) (q : List ℕ) → Nexts e p (Err r) q → q ≡ p
+  pub list_untouched : (s t u : List ℕ) (r : Result ℕ Refusal) → ListsInto s t r u → (e : Refusal) → r ≡ Err e → u ≡ t
 
 -- "2. Envelopes, verdicts and sizes are those of Cohen, Mandel, Plateau and Pouzet's clock envelopes, with the rounding and limits of document 01.
 -- Closing a clock alters one mark in the sheet and no envelope, verdict, size or whole total."
@@ -123,18 +115,17 @@ pub record Demand2 : Type 0 where
   -- a size "is never below 0": the number that is carried is the quotient itself, with its sign
   pub sizes : (e f : Envelope) → Taken e → Taken f → (size : ℕ) → verdict_of e f ≡ Accepted size → pos size ≡ size_of e f
   -- and these are what is given, with both counts and both rooms
-  pub given : (s : List ℕ) (clocks links : List ℤ) (r : Reply) (cs ls : List ℤ) → WorksOut s clocks links r cs ls
+  pub given : (s : List ℕ) (clocks links : List ℤ) (r : Result Totals Refusal) (cs ls : List ℤ) → WorksOut s clocks links r cs ls
       → (o : SheetRead) → Passed s o → 4 * length o.table ≤ length clocks → 3 * length o.sheet.links ≤ length links
-      → (r.number ≡ 0) × (r.place ≡ 0) × (r.clocks ≡ length o.table) × (r.links ≡ length o.sheet.links)
-      × (r.opened ≡ open_room o) × (r.whole ≡ whole_room o)
+      → (r ≡ Ok (record { clocks = length o.table; links = length o.sheet.links; opened = open_room o; whole = whole_room o }))
       × (cs ≡ flatten clock_numbers o.table ++ drop (4 * length o.table) clocks)
       × (ls ≡ flatten link_numbers (rows_of o) ++ drop (3 * length o.sheet.links) links)
   -- and what is listed, into a buffer that has room; no listing is longer than 18,463 bytes
-  pub listing : (s : List ℕ) (o : SheetRead) → Passed s o → (t u : List ℕ) (r : Listed) → ListsInto s t r u → length (sheet_text o) ≤ length t
-      → (r ≡ Listed.Text (length (sheet_text o))) × (u ≡ sheet_text o ++ drop (length (sheet_text o)) t)
+  pub listing : (s : List ℕ) (o : SheetRead) → Passed s o → (t u : List ℕ) (r : Result ℕ Refusal) → ListsInto s t r u → length (sheet_text o) ≤ length t
+      → (r ≡ Ok (length (sheet_text o))) × (u ≡ sheet_text o ++ drop (length (sheet_text o)) t)
   pub listing_within : (s : List ℕ) → AllBytes s → (o : SheetRead) → Passed s o → length (sheet_text o) ≤ 18_463
   -- "Closing a clock alters one mark in the sheet and no envelope, verdict, size or whole total": where the reply is 0, at its place
-  pub closing : (s : List ℕ) → AllBytes s → (i : ℕ) (r : Closing) (t : List ℕ) → Closes s i r t → closing_number r ≡ 0 → (o : SheetRead) → Passed s o → OneClosed s i o (closing_place r) t
+  pub closing : (s : List ℕ) → AllBytes s → (i : ℕ) (r : Result ℕ Refusal) (t : List ℕ) → Closes s i r t → (place : ℕ) → r ≡ Ok place → (o : SheetRead) → Passed s o → OneClosed s i o place t
   -- any set of clocks, in any order
   pub any_set : (s : List ℕ) → AllBytes s → (is t : List ℕ) → ClosedInTurn is s t → (o : SheetRead) → Passed s o
       → (after : SheetRead) × Passed t after × Alters (among is) o after
@@ -142,7 +133,7 @@ pub record Demand2 : Type 0 where
   -- a clock's expression is "handed back as that very part of the sheet"; on a refusal "an empty part", one of the sheet's start
   pub quoting : (s : List ℕ) → AllBytes s → (i : ℕ) (at : ℕ × ℕ) (part : List ℕ) (from : ℕ × ℕ) → Quotes s i at part from
       → (o : SheetRead) → Passed s o → i < length o.sheet.clocks → Quoted s i at part from
-  pub quoting_nothing : (s : List ℕ) (i : ℕ) (at : ℕ × ℕ) (part : List ℕ) (from : ℕ × ℕ) (r : QuoteReply) → Quotes s i at part from → RepliesTo s i r → r.number ≢ 0
+  pub quoting_nothing : (s : List ℕ) (i : ℕ) (at : ℕ × ℕ) (part : List ℕ) (from : ℕ × ℕ) (r : Result (Unit {0}) Refusal) → Quotes s i at part from → RepliesTo s i r → (e : Refusal) → r ≡ Err e
       → (part ≡ []) × (from.0 ≡ at.0) × (from.1 ≡ at.1)
 
 -- "3. For every envelope the program takes and every length up to 4,096, walking from the first pattern to the last meets each beginning of an endless
@@ -151,9 +142,9 @@ pub record Demand2 : Type 0 where
 pub record Demand3 : Type 0 where
   pub walk : (e : Envelope) → Taken e → (m : ℕ) → m ≤ 4_096 → Walks e m
   -- "check" answers inside exactly for those beginnings
-  pub inside : (e : Envelope) → Taken e → (p : List ℕ) (a : Answer) → Checks e p a → (a ≡ Inside) ↔ ((length p ≤ 4_096) × Begins e p)
+  pub inside : (e : Envelope) → Taken e → (p : List ℕ) (a : Result Answer Refusal) → Checks e p a → (a ≡ Ok Inside) ↔ ((length p ≤ 4_096) × Begins e p)
   -- link m of a sheet that is worked out: its verdict in the result slice is 0, accepted, and the number after that is the size given
-  pub links : (s : List ℕ) → AllBytes s → (clocks links : List ℤ) (r : Reply) (cs ls : List ℤ) → WorksOut s clocks links r cs ls → r.number ≡ 0
+  pub links : (s : List ℕ) → AllBytes s → (clocks links : List ℤ) (r : Result Totals Refusal) (cs ls : List ℤ) → WorksOut s clocks links r cs ls → (t : Totals) → r ≡ Ok t
       → (o : SheetRead) → Passed s o → (m : ℕ) (l : Link) → get_elem? o.sheet.links m ≡ some l
       → get_or ls (3 * m) (pos 0) ≡ pos 0 → (size : ℕ) → get_or ls (3 * m + 1) (pos 0) ≡ pos size
       → (a b : Stream) → StreamOf o l.producer a → StreamOf o l.consumer b → Serves a b size

@@ -2,25 +2,24 @@
 // than the record that stands here, this crate would not be proved.
 #![tactic(auto)]
 
-ghost use Rattle.envelope.specs.Envelope.{numbers};
 ghost use Rattle.pattern.specs.Answer.{Checks, Firsts, Nexts};
 ghost use Rattle.sizing.specs.WorkOut.{WorksOut};
 ghost use Rattle.register.specs.Closing.{Closes};
 ghost use Rattle.register.specs.Quoting.{Quotes, RepliesTo};
 ghost use Rattle.report.specs.Listing.{ListsInto};
 
+use envelope::Envelope;
 use pattern::Answer;
-use register::{Closing, QuoteReply};
-use report::Listed;
-use sizing::Reply;
+use reply::Refusal;
+use sizing::Totals;
 
-pub fn work_out(sheet: &[u8], clocks: &mut [i64], links: &mut [i64]) -> Reply
+pub fn work_out(sheet: &[u8], clocks: &mut [i64], links: &mut [i64]) -> Result<Totals, Refusal>
     ensures { WorksOut sheet.now clocks.old links.old result clocks.new links.new }
 {
     sizing::work_out(sheet, clocks, links)
 }
 
-pub fn close(sheet: &mut [u8], clock: usize) -> Closing
+pub fn close(sheet: &mut [u8], clock: usize) -> Result<usize, Refusal>
     ensures { Closes sheet.old clock result sheet.new }
 {
     register::close(sheet, clock)
@@ -32,32 +31,32 @@ pub fn quote(sheet: &[u8], clock: usize) -> &[u8]
     register::quote(sheet, clock)
 }
 
-pub fn quote_reply(sheet: &[u8], clock: usize) -> QuoteReply
+pub fn quote_reply(sheet: &[u8], clock: usize) -> Result<(), Refusal>
     ensures { RepliesTo sheet.now clock result }
 {
     register::quote_reply(sheet, clock)
 }
 
-pub fn list(sheet: &[u8], text: &mut [u8]) -> Listed
+pub fn list(sheet: &[u8], text: &mut [u8]) -> Result<usize, Refusal>
     ensures { ListsInto sheet.now text.old result text.new }
 {
     report::list(sheet, text)
 }
 
-pub fn check(k: i64, K: i64, l: u64, n: u64, pattern: &[u8]) -> Answer
-    ensures { Checks (numbers k K l n) pattern.now result }
+pub fn check(e: Envelope, pattern: &[u8]) -> Result<Answer, Refusal>
+    ensures { Checks e pattern.now result }
 {
-    pattern::check(k, K, l, n, pattern)
+    pattern::check(e, pattern)
 }
 
-pub fn first(k: i64, K: i64, l: u64, n: u64, pattern: &mut [u8]) -> Answer
-    ensures { Firsts (numbers k K l n) pattern.old result pattern.new }
+pub fn first(e: Envelope, pattern: &mut [u8]) -> Result<Answer, Refusal>
+    ensures { Firsts e pattern.old result pattern.new }
 {
-    pattern::first(k, K, l, n, pattern)
+    pattern::first(e, pattern)
 }
 
-pub fn next(k: i64, K: i64, l: u64, n: u64, pattern: &mut [u8]) -> Answer
-    ensures { Nexts (numbers k K l n) pattern.old result pattern.new }
+pub fn next(e: Envelope, pattern: &mut [u8]) -> Result<Answer, Refusal>
+    ensures { Nexts e pattern.old result pattern.new }
 {
-    pattern::next(k, K, l, n, pattern)
+    pattern::next(e, pattern)
 }

@@ -1,29 +1,24 @@
 // Bits as text.
 ghost use Rattle.std.specs.Prelude.{◌≡◌};
 ghost use Rattle.dump.specs.BitLine.{bit_figure, bit_line};
-ghost use Rattle.line.specs.Text.{Put};
+ghost use Rattle.line.specs.Text.{put};
+ghost use Rattle.line.specs.Writing.{out_in, Leaves};
 
-use line::{LINE_FEED, put_byte};
-
-const ZERO: u8 = 48;
-
-const ONE: u8 = 49;
+use line::{LINE_FEED, Writer};
 
 fn bit_figure(bit: u8) -> u8
     ensures { result ≡ bit_figure bit }
 {
-    if bit == 0 { ZERO } else { ONE }
+    if bit == 0 { b'0' } else { b'1' }
 }
 
 // A figure for each bit, and a line feed.
-pub fn put_bits(out: &mut [u8], at: usize, bits: &[u8]) -> usize
-    ensures { Put out.old at (bit_line bits.now) out.new result }
+#[tactic(auto, using(crate::proofs::BitLine::bits_more, crate::proofs::BitLine::bits_past), unfolding(line::specs::Text::put))]
+pub fn put_bits(out: &mut Writer<'_>, bits: &[u8])
+    ensures { Leaves out.old out.new (put (out_in out.old) (bit_line bits.now)) }
 {
-    let mut next = at;
-    let mut i = 0;
-    while i < bits.len() {
-        next = put_byte(out, next, bit_figure(bits[i]));
-        i += 1;
+    for bit in bits {
+        out.put_byte(bit_figure(*bit));
     }
-    put_byte(out, next, LINE_FEED)
+    out.put_byte(LINE_FEED);
 }

@@ -1,23 +1,25 @@
 // Bytes in hexadecimal.
 ghost use Rattle.std.specs.Prelude.{◌≡◌, ◌<◌};
 ghost use Rattle.dump.specs.HexLine.{hex_figure, after_byte, hex_byte, hex_line};
-ghost use Rattle.line.specs.Text.{Put};
+ghost use Rattle.line.specs.Text.{put};
+ghost use Rattle.line.specs.Writing.{out_in, Leaves};
 
-use line::{BLANK, LINE_FEED, put_byte};
+use line::{BLANK, LINE_FEED, Writer};
 
 fn hex_figure(d: u8) -> u8
     requires { d < 16 }
     ensures { result ≡ hex_figure d }
 {
-    if d < 10 { 48 + d } else { 87 + d }
+    if d < 10 { b'0' + d } else { b'a' + (d - 10) }
 }
 
-fn put_hex_byte(out: &mut [u8], at: usize, b: u8, after: u8) -> usize
-    ensures { Put out.old at (hex_byte b after) out.new result }
+#[tactic(auto, unfolding(line::specs::Text::put))]
+fn put_hex_byte(out: &mut Writer<'_>, b: u8, after: u8)
+    ensures { Leaves out.old out.new (put (out_in out.old) (hex_byte b after)) }
 {
-    let second = put_byte(out, at, hex_figure(b / 16));
-    let third = put_byte(out, second, hex_figure(b % 16));
-    put_byte(out, third, after)
+    out.put_byte(hex_figure(b / 16));
+    out.put_byte(hex_figure(b % 16));
+    out.put_byte(after);
 }
 
 // What stands after byte i of n: a blank, and a line feed after the last.
@@ -29,14 +31,11 @@ fn after_byte(i: usize, n: usize) -> u8
 }
 
 // Two figures for each byte, with a blank between, and a line feed.
-pub fn put_hex(out: &mut [u8], at: usize, bytes: &[u8]) -> usize
-    ensures { Put out.old at (hex_line bytes.now) out.new result }
+#[tactic(auto, using(crate::proofs::HexLine::hex_more, crate::proofs::HexLine::hex_past), unfolding(line::specs::Text::put))]
+pub fn put_hex(out: &mut Writer<'_>, bytes: &[u8])
+    ensures { Leaves out.old out.new (put (out_in out.old) (hex_line bytes.now)) }
 {
-    let mut next = at;
-    let mut i = 0;
-    while i < bytes.len() {
-        next = put_hex_byte(out, next, bytes[i], after_byte(i, bytes.len()));
-        i += 1;
+    for (i, b) in bytes.iter().enumerate() {
+        put_hex_byte(out, *b, after_byte(i, bytes.len()));
     }
-    next
 }

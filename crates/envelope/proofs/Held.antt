@@ -1,15 +1,17 @@
 -- What the machine holds of the numbers of an envelope within its limits, and the bounds of their products.
 -- Assumes nothing.
-use mathlib.Core.Path.{◌≡◌, subst⁻¹}
-use Prim.Native.Nat.{ℕ, ◌*◌, ◌≤◌}
-use native.Mathlib.Nat.{mul-le-mul}
+use mathlib.Core.Path.{◌≡◌}
+use Prim.Native.Nat.{ℕ, ◌*◌, ◌≤◌, ◌<◌}
+use native.Mathlib.Nat.{mul-le-mul, le_of_dvd}
 use native.Mathlib.Omega.{arith}
 use lib.IntN.{ℤ, pos, ◌-ℤ◌, ◌*ℤ◌}
 use lib.Signed.{◌≤ℤ◌}
 use mir.Syntax.{w64}
 use mir.Val.{SFits, to_z, of_z}
 use mir.Facts.{to_z-of_z}
-use Rattle.whole.proofs.Bridge.{up, down, signed, up_most, down_most, up_mul, down_mul, up_diff_le, down_diff_le, sfits_small}
+use Rattle.whole.specs.Euclid.{gcd_of}
+use Rattle.whole.proofs.Euclid.{gcd_is, gcd_pos}
+use Rattle.whole.proofs.Bridge.{up, down, up_most, down_most, up_mul, down_mul, up_diff_le, down_diff_le, sfits_small}
 use Rattle.whole.proofs.Machine.{held}
 use Rattle.envelope.specs.declared.Envelope.{Envelope}
 use Rattle.envelope.specs.Limits.{l_most, lower_least, lower_most, upper_least, upper_most}
@@ -51,10 +53,6 @@ module _ (e : Envelope) (h : Limits e) where
   pub l_held : to_z w64 e.l ≡ pos e.l
   l_held = small_held e.l h.l_within
 
-  -- K keeps to the limits of k
-  pub K_within : (lower_least ≤ℤ to_z w64 (of_z w64 e.K)) × (to_z w64 (of_z w64 e.K) ≤ℤ lower_most)
-  K_within = subst⁻¹ (λ (z : ℤ). (lower_least ≤ℤ z) × (z ≤ℤ lower_most)) K_held (omega (arith, signed), h.K_most)
-
 module _ (e : Envelope) (t : Taken e) where
   pub n_small : e.n ≤ l_most
   n_small = omega (arith, t.n_most, t.limits.l_within)
@@ -76,3 +74,10 @@ product x n h p q =
     let a : up x ≤ up lower_most = up_most q in
     let b : down x ≤ down lower_least = down_most x (down lower_least) p in
     (omega (arith, up_mul x n, mul-le-mul a h), omega (arith, down_mul x n, mul-le-mul b h))
+
+-- ---- what four numbers are divided by
+pub divisor_least : (l n g : ℕ) → g ≡ gcd_of l n → 0 < n → 0 < g
+divisor_least l n g e h = omega (arith, gcd_pos l n h)
+
+pub divisor_most : (l n g : ℕ) → g ≡ gcd_of l n → 0 < n → g ≤ n
+divisor_most l n g e h = omega (arith, le_of_dvd h (gcd_is l n).right)

@@ -27,14 +27,6 @@ pub both_true : (a b : Bool) → (a && b) ≡ true → (a ≡ true) × (b ≡ tr
 both_true true b h = (refl, h)
 both_true false b h = absurd (false≢true h)
 
--- what the code's `a && b` gives, where a is the test t: b past it, else a
-module _ {a t x : Bool} (h : a ≡ t) where
-  pub passed : {b : Bool} → a ≡ true → x ≡ b → x ≡ (t && b)
-  passed p q = rw (← h, p) q
-
-  pub stopped : (b : Bool) → a ≡ false → x ≡ a → x ≡ (t && b)
-  stopped b p q = rw (← h, p) (q ∙ p)
-
 -- an order, from its test
 shown : (x y : ℤ) → le_z x y ≡ true → x ≤ℤ y
 shown x y h = record { le = to_t (le_z x y) h }

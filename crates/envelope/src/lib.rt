@@ -4,10 +4,14 @@
 ghost use Rattle.std.specs.Prelude.{◌≡◌, ◌-◌, ◌*◌, ◌≤◌, ◌<◌, ◌^◌, pos, ◌+ℤ◌, ◌*ℤ◌, ◌≤ℤ◌};
 ghost use Rattle.envelope.specs.Limits.{l_most, lower_least, lower_most};
 ghost use Rattle.envelope.specs.Envelope.{Limits, within_limits, has_room, Taken, before_start, result_of, normal_of, not_of, on_of};
-ghost use Rattle.envelope.specs.Made.{Fields, declared_of, limited, negated_of, on_within_limits};
+ghost use Rattle.envelope.specs.Made.{Fields, number_of, declared_of, limited, negated_of, on_within_limits};
+ghost use Rattle.reply.specs.Refusal.{cause_number};
 ghost use Rattle.envelope.specs.Inner.Tests.{is_taken};
 
-#[derive(Clone, Copy)]
+use reply::Cause;
+
+// `Taken` is no invariant of it, since `is_taken` tests any four numbers and a rule may give an envelope that is refused.
+#[derive(Clone, Copy, Debug, PartialEq, Eq)]
 pub struct Envelope {
     pub k: i64,
     pub K: i64,
@@ -16,19 +20,33 @@ pub struct Envelope {
 }
 
 // What an evaluated node comes to.
-#[derive(Clone, Copy)]
+#[derive(Clone, Copy, Debug, PartialEq, Eq)]
 pub struct Node {
     pub envelope: Envelope,
 }
 
-// What a rule makes of a node's parts.
-#[derive(Clone, Copy)]
-pub enum Made {
-    Good(Node),
+// Why a rule makes no node of its parts.
+#[derive(Clone, Copy, Debug, PartialEq, Eq)]
+pub enum Flaw {
     Empty,
     FullRate,
     Outgrown,
 }
+
+impl From<Flaw> for Cause {
+    ghost from_gives = { λ flaw cause. cause_number cause ≡ number_of flaw };
+
+    fn from(flaw: Flaw) -> Cause {
+        match flaw {
+            Flaw::Empty => Cause::Empty,
+            Flaw::FullRate => Cause::FullRate,
+            Flaw::Outgrown => Cause::Outgrown,
+        }
+    }
+}
+
+// What a rule makes of a node's parts.
+pub type Made = Result<Node, Flaw>;
 
 impl Envelope {
     pub const L_MOST: u64 = 1_000_000;
@@ -42,13 +60,15 @@ impl Envelope {
     pub const UPPER_MOST: i64 = 1_000_000_000;
 
     // Whether a lower edge of rate one lies before position 0, where no stream starts.
+    #[tactic(auto, unfolding(crate::specs::Envelope::before_start))]
     fn before_start(k: i64, l: u64, n: u64) -> bool
         ensures { result ≡ before_start k l n }
     {
         l == 1 && n == 1 && k < 0
     }
 
-    // The one place through which every node's result goes.
+    // The one place through which every node's result goes. Four numbers and not an `Envelope`, since they are none before it.
+    #[tactic(auto, unfolding(crate::specs::Envelope::result_of))]
     pub fn result(k: i64, K: i64, l: u64, n: u64) -> Envelope
         ensures { result ≡ result_of k K l n }
     {
@@ -59,6 +79,7 @@ impl Envelope {
     }
 
     // The four numbers made normal.
+    #[tactic(auto, using(crate::proofs::Held::divisor_least, crate::proofs::Held::divisor_most), unfolding(crate::specs::Envelope::normal_of))]
     pub fn normal(k: i64, K: i64, l: u64, n: u64) -> Envelope
         requires { (0 < n) × (n < 2 ^ 63) }
         ensures { result ≡ normal_of k K l n }
@@ -68,6 +89,7 @@ impl Envelope {
     }
 
     // 0 and 1 exchanged.
+    #[tactic(auto, unfolding(crate::specs::Envelope::not_of))]
     pub fn not(self) -> Envelope
         requires { Taken self × (self.n < self.l) }
         ensures { result ≡ not_of self }
@@ -83,6 +105,7 @@ impl Envelope {
     }
 
     // What the 1s of a stream in self read of a stream in b.
+    #[tactic(auto, unfolding(crate::specs::Envelope::on_of))]
     pub fn on(self, b: Envelope) -> Envelope
         requires { Taken self × Taken b }
         ensures { result ≡ on_of self b }
@@ -93,6 +116,7 @@ impl Envelope {
     }
 
     // Whether l, k and K are within their limits.
+    #[tactic(auto, unfolding(crate::specs::Envelope::within_limits))]
     fn within_limits(self) -> bool
         ensures { result ≡ within_limits self }
     {
@@ -106,6 +130,7 @@ impl Envelope {
     }
 
     // Whether some stream lies in it, if it is normal.
+    #[tactic(auto, unfolding(crate::specs::Envelope::has_room))]
     fn has_room(self) -> bool
         requires { Limits self × (1 ≤ self.n) × (self.n ≤ l_most) }
         ensures { result ≡ has_room self }
@@ -117,6 +142,7 @@ impl Envelope {
     }
 
     // Whether any four numbers are a taken, normal envelope.
+    #[tactic(auto, unfolding(crate::specs::Inner::Tests::is_taken))]
     pub fn is_taken(self) -> bool
         ensures { result ≡ is_taken self }
     {
@@ -129,36 +155,40 @@ impl Envelope {
     }
 
     // A declared node of four fields within their limits.
+    #[tactic(auto, unfolding(crate::specs::Made::declared_of))]
     pub fn declared(k: i64, K: i64, l: u64, n: u64) -> Made
         requires { Fields k K l n }
         ensures { result ≡ declared_of k K l n }
     {
         let e = Envelope::normal(k, K, l, n);
         if e.has_room() {
-            return Made::Good(Node { envelope: e });
+            return Ok(Node { envelope: e });
         }
-        Made::Empty
+        Err(Flaw::Empty)
     }
 
+    #[tactic(auto, unfolding(crate::specs::Made::limited))]
     fn limited_to(self) -> Made
         ensures { result ≡ limited self }
     {
         if self.within_limits() {
-            return Made::Good(Node { envelope: self });
+            return Ok(Node { envelope: self });
         }
-        Made::Outgrown
+        Err(Flaw::Outgrown)
     }
 
+    #[tactic(auto, unfolding(crate::specs::Made::negated_of))]
     pub fn negated(self) -> Made
         requires { Taken self }
         ensures { result ≡ negated_of self }
     {
         if self.l == self.n {
-            return Made::FullRate;
+            return Err(Flaw::FullRate);
         }
         self.not().limited_to()
     }
 
+    #[tactic(auto, unfolding(crate::specs::Made::on_within_limits))]
     pub fn on_within_limits(self, b: Envelope) -> Made
         requires { Taken self × Taken b }
         ensures { result ≡ on_within_limits self b }

@@ -1,12 +1,19 @@
 -- No second reply satisfies the contract of an entry point, where none satisfies that of the function behind it. Assumes nothing.
-use mathlib.Core.Path.{◌≡◌, sym, ap, ap₂, ◌∙◌}
+use mathlib.Core.Logic.{◌≢◌}
+use mathlib.Core.Path.{refl, ◌≡◌, sym, ap, ap₂, ◌∙◌}
 use mathlib.Core.List.{List}
 use Prim.Native.Nat.{ℕ}
+use native.Mathlib.Omega.{arith}
 use lib.ListN.{length}
-use Rattle.register.specs.declared.QuoteReply.{QuoteReply}
+use Rattle.std.specs.Prelude.{Result, Ok, Err}
+use Rattle.reply.specs.declared.Cause.{Cause}
+use Rattle.reply.specs.declared.Cause.TheVariants.{Missing, Beyond, Unknown, NoOne, Absent, TooDeep, Empty, FullRate, Outgrown, Trailing, ShortResult, NoEnvelope, LongPattern, NotABit, Outside, NoClock, AlreadyClosed}
+use Rattle.reply.specs.declared.Refusal.{Refusal}
+use Rattle.reply.specs.Refusal.{cause_number}
+use Rattle.sizing.specs.declared.Totals.{Totals}
 use Rattle.report.specs.Listing.{over}
-use Rattle.export.specs.Flat.{quote_written}
-use Rattle.export.specs.Promise.{NoSecondReply}
+use Rattle.export.specs.Flat.{work_out_reply, quote_written}
+use Rattle.export.specs.Promise.{NoSecondReply, NoTotals, NoCauseIsZero, NothingOnRefusal}
 
 pub no_second_reply : NoSecondReply
 no_second_reply =
@@ -17,7 +24,37 @@ no_second_reply =
       one_copy = λ s i at out r q t u a b.
           let part : a.part ≡ b.part = a.quoted.part_is ∙ sym b.quoted.part_is in
           let answer : a.answer ≡ b.answer = a.replied.reply_is ∙ sym b.replied.reply_is in (
-            a.reply_is ∙ ap₂ (λ (x : QuoteReply) (p : List ℕ). quote_written x p (length out)) answer part ∙ sym b.reply_is,
+            a.reply_is ∙ ap₂ (λ (x : Result (Unit {0}) Refusal) (p : List ℕ). quote_written x p (length out)) answer part ∙ sym b.reply_is,
             a.out_is ∙ ap (λ (p : List ℕ). over p out) part ∙ sym b.out_is,
           );
     }
+
+-- by what working out answered
+empty : (a : Result Totals Refusal) → (work_out_reply a).number ≢ 0 → NoTotals (work_out_reply a)
+empty (Ok t) h = absurd (h refl)
+empty (Err e) h = record { clocks = refl; links = refl; opened = refl; whole = refl }
+
+pub nothing_on_refusal : NothingOnRefusal
+nothing_on_refusal = record { no_totals = λ s clocks links cs ls r a h. rw a.reply_is (empty a.answer (rw (← a.reply_is) h)) }
+
+not_0 : (c : Cause) → cause_number c ≢ 0
+not_0 Missing h = absurd (omega arith)
+not_0 Beyond h = absurd (omega arith)
+not_0 Unknown h = absurd (omega arith)
+not_0 NoOne h = absurd (omega arith)
+not_0 Absent h = absurd (omega arith)
+not_0 TooDeep h = absurd (omega arith)
+not_0 Empty h = absurd (omega arith)
+not_0 FullRate h = absurd (omega arith)
+not_0 Outgrown h = absurd (omega arith)
+not_0 Trailing h = absurd (omega arith)
+not_0 ShortResult h = absurd (omega arith)
+not_0 NoEnvelope h = absurd (omega arith)
+not_0 LongPattern h = absurd (omega arith)
+not_0 NotABit h = absurd (omega arith)
+not_0 Outside h = absurd (omega arith)
+not_0 NoClock h = absurd (omega arith)
+not_0 AlreadyClosed h = absurd (omega arith)
+
+pub no_cause_is_zero : NoCauseIsZero
+no_cause_is_zero = record { not_0 = not_0 }

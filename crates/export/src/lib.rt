@@ -7,12 +7,14 @@ ghost use Rattle.register.specs.Closing.{Closes};
 ghost use Rattle.envelope.specs.Envelope.{numbers};
 ghost use Rattle.pattern.specs.Answer.{Checks, Firsts, Nexts};
 ghost use Rattle.report.specs.Listing.{ListsInto};
-ghost use Rattle.export.specs.Flat.{work_out_reply, close_reply, answer_reply, list_written};
+ghost use Rattle.line.specs.Text.{Put};
+ghost use Rattle.export.specs.Flat.{work_out_reply, refusal_reply, close_reply, answer_reply, list_written};
 ghost use Rattle.export.specs.Promise.{As, Copies};
 
+use envelope::Envelope;
+use line::Writer;
 use pattern::Answer;
-use register::Closing;
-use report::Listed;
+use reply::{Cause, Refusal};
 
 // The number that stands for "last": no refusal has it.
 const LAST: u64 = 255;
@@ -23,6 +25,17 @@ const LAST: u64 = 255;
 pub struct TxoriReply {
     pub number: u64,
     pub place: u64,
+}
+
+impl From<Refusal> for TxoriReply {
+    ghost from_gives = { λ r reply. reply ≡ refusal_reply r };
+
+    fn from(r: Refusal) -> TxoriReply {
+        TxoriReply {
+            number: r.number() as u64,
+            place: r.place as u64,
+        }
+    }
 }
 
 // What working a sheet out answers.
@@ -54,14 +67,26 @@ pub extern "C" fn txori_work_out(
 ) -> TxoriWorkOut
     ensures { As work_out_reply (λ a. WorksOut sheet.now clocks.old links.old a clocks.new links.new) result }
 {
-    let r = sizing::work_out(sheet, clocks, links);
-    TxoriWorkOut {
-        number: r.number as u64,
-        place: r.place as u64,
-        clocks: r.clocks as u64,
-        links: r.links as u64,
-        opened: r.opened,
-        whole: r.whole,
+    match sizing::work_out(sheet, clocks, links) {
+        Ok(t) => TxoriWorkOut {
+            number: 0,
+            place: 0,
+            clocks: t.clocks as u64,
+            links: t.links as u64,
+            opened: t.opened,
+            whole: t.whole,
+        },
+        Err(e) => {
+            let r = TxoriReply::from(e);
+            TxoriWorkOut {
+                number: r.number,
+                place: r.place,
+                clocks: 0,
+                links: 0,
+                opened: 0,
+                whole: 0,
+            }
+        }
     }
 }
 
@@ -70,85 +95,89 @@ pub extern "C" fn txori_close(sheet: &mut [u8], clock: usize) -> TxoriReply
     ensures { As close_reply (λ a. Closes sheet.old clock a sheet.new) result }
 {
     match register::close(sheet, clock) {
-        Closing::Closed(place) => TxoriReply {
+        Ok(place) => TxoriReply {
             number: 0,
             place: place as u64,
         },
-        Closing::Refused(number, place) => TxoriReply {
-            number: number as u64,
-            place: place as u64,
-        },
+        Err(e) => TxoriReply::from(e),
     }
 }
 
+// How many bytes were written, or the refusal.
+fn written(answer: Result<usize, Refusal>) -> TxoriWritten
+    ensures { result ≡ list_written answer }
+{
+    match answer {
+        Ok(length) => TxoriWritten {
+            number: 0,
+            place: 0,
+            length: length as u64,
+        },
+        Err(e) => {
+            let r = TxoriReply::from(e);
+            TxoriWritten {
+                number: r.number,
+                place: r.place,
+                length: 0,
+            }
+        }
+    }
+}
+
+// Not by `copy_from_slice`, which calls memmove: the library promises to call nothing but memcpy and memset.
+fn put_part(out: &mut [u8], part: &[u8]) -> usize
+    ensures { Put out.old 0 part.now out.new result }
+{
+    let mut writer = Writer::new(out);
+    writer.put_bytes(part);
+    writer.at
+}
+
 // The part is copied, since no reference crosses as a result, and not begun where it can't be held. Only a refusal's is empty.
+fn copy(sheet: &[u8], clock: usize, out: &mut [u8]) -> Result<usize, Refusal>
+    ensures { Copies sheet.now clock sheet.entry.ref_ptr out.old (list_written result) out.new }
+{
+    let part = register::quote(sheet, clock);
+    if part.is_empty() {
+        register::quote_reply(sheet, clock)?;
+    }
+    if out.len() < part.len() {
+        return Err(Refusal {
+            cause: Cause::ShortResult,
+            place: 0,
+        });
+    }
+    Ok(put_part(out, part))
+}
+
 #[unsafe(no_mangle)]
 pub extern "C" fn txori_quote(sheet: &[u8], clock: usize, out: &mut [u8]) -> TxoriWritten
     ensures { Copies sheet.now clock sheet.entry.ref_ptr out.old result out.new }
 {
-    let part = register::quote(sheet, clock);
-    if part.len() == 0 {
-        let r = register::quote_reply(sheet, clock);
-        return TxoriWritten {
-            number: r.number as u64,
-            place: r.place as u64,
-            length: 0,
-        };
-    }
-    if out.len() < part.len() {
-        return TxoriWritten {
-            number: reply::SHORT_RESULT as u64,
-            place: 0,
-            length: 0,
-        };
-    }
-    let end = line::put_bytes(out, 0, part);
-    TxoriWritten {
-        number: 0,
-        place: 0,
-        length: end as u64,
-    }
+    written(copy(sheet, clock, out))
 }
 
 #[unsafe(no_mangle)]
 pub extern "C" fn txori_list(sheet: &[u8], text: &mut [u8]) -> TxoriWritten
     ensures { As list_written (λ a. ListsInto sheet.now text.old a text.new) result }
 {
-    match report::list(sheet, text) {
-        Listed::Text(length) => TxoriWritten {
-            number: 0,
-            place: 0,
-            length: length as u64,
-        },
-        Listed::Refused(number, place) => TxoriWritten {
-            number: number as u64,
-            place: place as u64,
-            length: 0,
-        },
-    }
+    written(report::list(sheet, text))
 }
 
 // A pattern's answer as numbers.
-fn flat(answer: Answer) -> TxoriReply
+fn flat(answer: Result<Answer, Refusal>) -> TxoriReply
     ensures { result ≡ answer_reply answer }
 {
     match answer {
-        Answer::Inside => TxoriReply {
+        Ok(Answer::Inside | Answer::Done) => TxoriReply {
             number: 0,
             place: 0,
         },
-        Answer::Done => TxoriReply {
-            number: 0,
-            place: 0,
-        },
-        Answer::Last => TxoriReply {
+        Ok(Answer::Last) => TxoriReply {
             number: LAST,
             place: 0,
         },
-        Answer::Refused(number, place) => TxoriReply {
-            number: number as u64,
-            place: place as u64,
-        },
+        Err(e) => TxoriReply::from(e),
     }
 }
 
@@ -156,19 +185,19 @@ fn flat(answer: Answer) -> TxoriReply
 pub extern "C" fn txori_check(k: i64, K: i64, l: u64, n: u64, pattern: &[u8]) -> TxoriReply
     ensures { As answer_reply (λ a. Checks (numbers k K l n) pattern.now a) result }
 {
-    flat(pattern::check(k, K, l, n, pattern))
+    flat(pattern::check(Envelope { k, K, l, n }, pattern))
 }
 
 #[unsafe(no_mangle)]
 pub extern "C" fn txori_first(k: i64, K: i64, l: u64, n: u64, pattern: &mut [u8]) -> TxoriReply
     ensures { As answer_reply (λ a. Firsts (numbers k K l n) pattern.old a pattern.new) result }
 {
-    flat(pattern::first(k, K, l, n, pattern))
+    flat(pattern::first(Envelope { k, K, l, n }, pattern))
 }
 
 #[unsafe(no_mangle)]
 pub extern "C" fn txori_next(k: i64, K: i64, l: u64, n: u64, pattern: &mut [u8]) -> TxoriReply
     ensures { As answer_reply (λ a. Nexts (numbers k K l n) pattern.old a pattern.new) result }
 {
-    flat(pattern::next(k, K, l, n, pattern))
+    flat(pattern::next(Envelope { k, K, l, n }, pattern))
 }

@@ -18,11 +18,11 @@ use Rattle.field.proofs.SignedFields.{signed_in_got}
 use Rattle.field.proofs.Format.{ranged_run, signed_run}
 use Rattle.envelope.specs.declared.Envelope.{Envelope}
 use Rattle.envelope.specs.declared.Node.{Node}
-use Rattle.envelope.specs.declared.Made.{Made}
-use Rattle.envelope.specs.declared.Made.TheVariants.{Good, Empty, FullRate, Outgrown}
+use Rattle.std.specs.Prelude.{Ok, Err}
 use Rattle.envelope.specs.Limits.{l_most, lower_least, lower_most, upper_least, upper_most}
-use Rattle.envelope.specs.Made.{Fields, declared_of, negated_of, on_within_limits}
-use Rattle.expression.specs.Expression.{Tag, tag_number, Expr, depth, spell}
+use Rattle.envelope.specs.Made.{Made, Fields, declared_of, negated_of, on_within_limits}
+use Rattle.expression.specs.declared.Tag.{Tag}
+use Rattle.expression.specs.Expression.{tag_number, Expr, depth, spell}
 use Rattle.expression.specs.Expression.Expr.{word, declared, negated, on, clock}
 use Rattle.expression.specs.Evaluate.{Worth, Worth.good, Worth.fault, worth_of, onward, joint, listed, declared_worth, evaluate}
 use Rattle.expression.specs.Reader.{expr_at}
@@ -44,10 +44,8 @@ refused_at_lem {number} e = ap (λ (t : ℕ). refused number t) e
 
 -- ---- a complete node
 kept_place : (x : Expr) (m : Made) (c a : ℕ) → settled (kept x m) c a ≡ place x (worth_of m) c (a + 0)
-kept_place x (Good e) c a = refl
-kept_place x Empty c a = refused_at_lem (omega arith)
-kept_place x FullRate c a = refused_at_lem (omega arith)
-kept_place x Outgrown c a = refused_at_lem (omega arith)
+kept_place x (Ok e) c a = refl
+kept_place x (Err f) c a = refused_at_lem (omega arith)
 
 module _ (s : List ℕ) where
   named_met : (make : ℕ → Expr) (xs : List Node) (i a c : ℕ) → length xs ≤ indexes → i < length xs → Bytes s (suc a) (bytes_of 2 i) c
@@ -56,7 +54,7 @@ module _ (s : List ℕ) where
   named_met make xs i a c h p b = rw (field_got s 2 (suc a) i c (omega (arith, limit2)) b, (lookup_there xs i p).1)
 
   declared_met : (ws cs : List Node) (part : Format Valued) (k K : ℤ) (l n a c : ℕ) → Fields k K l n → Bytes s (suc a) (bytes_of 4 (twos k) ++ (bytes_of 4 (twos K) ++ (bytes_of 4 l ++ bytes_of 4 n))) c
-      → bind (run (parts ws cs part Tag.declared) s (suc a)) (complete a) ≡ place (declared k K l n) (declared_worth k K l n) c (a + 0)
+      → bind (run (parts ws cs part Tag.Declared) s (suc a)) (complete a) ≡ place (declared k K l n) (declared_worth k K l n) c (a + 0)
   unfolding parts run
   declared_met ws cs part k K l n a c t b =
       let m = t.limits in
@@ -111,15 +109,15 @@ module _ (s : List ℕ) (ws cs : List Node) (hw : length ws ≤ indexes) (hc : l
       → expr_at d s ws cs a ≡ place x (evaluate ws cs x) c (a + blame ws cs x)
   unfolding depth evaluate spell expr_at parts blame
   answered x zero a c r p b = absurd (omega (arith, some_depth x))
-  answered (word i) (suc d) a c r p b = behind s ws cs d a Tag.word (suc a) (tag_got s Tag.word b) ∙ named_met s word ws i a c hw r (tail b)
+  answered (word i) (suc d) a c r p b = behind s ws cs d a Tag.Word (suc a) (tag_got s Tag.Word b) ∙ named_met s word ws i a c hw r (tail b)
   answered (declared k K l n) (suc d) a c r p b =
-      behind s ws cs d a Tag.declared (suc a) (tag_got s Tag.declared b) ∙ declared_met s ws cs (expression d ws cs) k K l n a c r (tail b)
+      behind s ws cs d a Tag.Declared (suc a) (tag_got s Tag.Declared b) ∙ declared_met s ws cs (expression d ws cs) k K l n a c r (tail b)
   answered (negated x) (suc d) a c r p b =
-      behind s ws cs d a Tag.negated (suc a) (tag_got s Tag.negated b)
+      behind s ws cs d a Tag.Not (suc a) (tag_got s Tag.Not b)
       ∙ negated_met s (expression d ws cs) x (evaluate ws cs x) a (blame ws cs x) c (answered x d (suc a) c r (omega arith) (tail b))
   answered (on x y) (suc d) a c r p b =
-      both_answered d Tag.on on on_within_limits refl x y a c b (λ a c. answered x d a c r.0 (omega arith)) (λ a c. answered y d a c r.1 (omega arith))
-  answered (clock i) (suc d) a c r p b = behind s ws cs d a Tag.clock (suc a) (tag_got s Tag.clock b) ∙ named_met s clock cs i a c hc r (tail b)
+      both_answered d Tag.On on on_within_limits refl x y a c b (λ a c. answered x d a c r.0 (omega arith)) (λ a c. answered y d a c r.1 (omega arith))
+  answered (clock i) (suc d) a c r p b = behind s ws cs d a Tag.Clock (suc a) (tag_got s Tag.Clock b) ∙ named_met s clock cs i a c hc r (tail b)
 
   -- one that the rules refuse
   pub fault_read : (x : Expr) (d a number c : ℕ) → InRange (length ws) (length cs) x → depth x ≤ d → Bytes s a (spell x) c → evaluate ws cs x ≡ fault number

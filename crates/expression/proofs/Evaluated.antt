@@ -14,11 +14,10 @@ use Rattle.field.specs.Field.{between_z}
 use Rattle.field.proofs.SignedFields.{between_z_true}
 use Rattle.envelope.specs.declared.Envelope.{Envelope}
 use Rattle.envelope.specs.declared.Node.{Node}
-use Rattle.envelope.specs.declared.Made.{Made}
-use Rattle.envelope.specs.declared.Made.TheVariants.{Good, Empty, FullRate, Outgrown}
+use Rattle.std.specs.Prelude.{Ok, Err}
 use Rattle.envelope.specs.Limits.{l_most, lower_least, lower_most, upper_least, upper_most}
 use Rattle.envelope.specs.Envelope.{Taken, normal_of, not_of, on_of}
-use Rattle.envelope.specs.Made.{node_of, Fields, declared_of, negated_of, on_within_limits}
+use Rattle.envelope.specs.Made.{Made, node_of, Fields, declared_of, negated_of, on_within_limits}
 use Rattle.envelope.proofs.Tests.{both_true}
 use Rattle.envelope.proofs.Makings.{declared_good, negated_good, on_good}
 use Rattle.envelope.proofs.Taken.{declared_taken, not_taken, on_taken}
@@ -44,11 +43,9 @@ joint_good rule (good a) (good b) x h = (a, b, refl, refl, h)
 joint_good rule (good a) (fault number) x h = fault_good h
 joint_good rule (fault number) o x h = fault_good h
 
-pub worth_good : (m : Made) (x : Node) → worth_of m ≡ good x → m ≡ Good x
-worth_good (Good a) x h = cc
-worth_good Empty x h = fault_good h
-worth_good FullRate x h = fault_good h
-worth_good Outgrown x h = fault_good h
+pub worth_good : (m : Made) (x : Node) → worth_of m ≡ good x → m ≡ Ok x
+worth_good (Ok a) x h = cc
+worth_good (Err f) x h = fault_good h
 
 pub listed_good : (o : Option Node) (x : Node) → listed o ≡ good x → o ≡ some x
 listed_good none x h = fault_good h

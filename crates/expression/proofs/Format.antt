@@ -12,10 +12,12 @@ use Rattle.field.specs.Format.{Judged, Judged.passes, Judged.fails, Format}
 use Rattle.field.specs.Run.{settled, run}
 use Rattle.field.proofs.Format.{then_got, Fails, Gives, gives_ranged, gives_signed}
 use Rattle.envelope.specs.declared.Node.{Node}
-use Rattle.envelope.specs.declared.Made.{Made}
-use Rattle.envelope.specs.declared.Made.TheVariants.{Good, Empty, FullRate, Outgrown}
+use Rattle.std.specs.Prelude.{Ok, Err}
+use Rattle.envelope.specs.declared.Flaw.TheVariants.{Empty, FullRate, Outgrown}
+use Rattle.envelope.specs.Made.{Made}
 use Rattle.envelope.specs.Limits.{l_most, lower_least, lower_most, upper_least, upper_most}
-use Rattle.expression.specs.Expression.{Tag, tag_most, Expr}
+use Rattle.expression.specs.declared.Tag.{Tag}
+use Rattle.expression.specs.Expression.{tag_most, Expr}
 use Rattle.expression.specs.Reader.{expr_at}
 use Rattle.expression.specs.Format.{Valued, tags, tag_of, tag, found, named, parts, kept, expression}
 use Rattle.expression.proofs.Tags.{Says, says}
@@ -48,24 +50,24 @@ named_gives make xs = (tt, λ i. by i (get_elem? xs i))
     by i (some x) = tt
 
 kept_gives : (x : Expr) (m : Made) → Fails Listed (kept x m)
-kept_gives x (Good a) = tt
-kept_gives x Empty = refl
-kept_gives x FullRate = refl
-kept_gives x Outgrown = refl
+kept_gives x (Ok a) = tt
+kept_gives x (Err Empty) = refl
+kept_gives x (Err FullRate) = refl
+kept_gives x (Err Outgrown) = refl
 
 parts_gives : (ws cs : List Node) (part : Format Valued) → Gives Listed part → (t : Tag) → Gives Listed (parts ws cs part t)
 unfolding parts
-parts_gives ws cs part h Tag.word = named_gives Expr.word ws
-parts_gives ws cs part h Tag.declared = (
+parts_gives ws cs part h Tag.Word = named_gives Expr.word ws
+parts_gives ws cs part h Tag.Declared = (
   gives_signed Listed lower_least lower_most refl,
   λ k. (
     gives_signed Listed upper_least upper_most refl,
     λ K. (gives_ranged Listed 4 1 (l_most + 1) beyond refl, λ l. (gives_ranged Listed 4 1 (l + 1) beyond refl, λ n. tt)),
   ),
 )
-parts_gives ws cs part h Tag.negated = (h, λ x. tt)
-parts_gives ws cs part h Tag.on = (h, λ x. (h, λ y. tt))
-parts_gives ws cs part h Tag.clock = named_gives Expr.clock cs
+parts_gives ws cs part h Tag.Not = (h, λ x. tt)
+parts_gives ws cs part h Tag.On = (h, λ x. (h, λ y. tt))
+parts_gives ws cs part h Tag.Clock = named_gives Expr.clock cs
 
 pub expression_gives : (d : ℕ) (ws cs : List Node) → Gives Listed (expression d ws cs)
 unfolding expression

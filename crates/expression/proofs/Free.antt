@@ -15,7 +15,8 @@ use Rattle.field.proofs.Spelling.{split, tail, limit2, limit4}
 use Rattle.field.proofs.Fields.{field_got}
 use Rattle.field.proofs.SignedFields.{signed_got}
 use Rattle.field.proofs.Format.{then_got}
-use Rattle.expression.specs.Expression.{Tag, tag_number, Expr, depth, spell}
+use Rattle.expression.specs.declared.Tag.{Tag}
+use Rattle.expression.specs.Expression.{tag_number, Expr, depth, spell}
 use Rattle.expression.specs.Expression.Expr.{word, declared, negated, on, clock}
 use Rattle.expression.specs.Format.{tag}
 use Rattle.expression.specs.Spelled.{indexes, Fits, InRange}
@@ -46,13 +47,13 @@ abbrev integer : Format ℤ
 integer = then (field 4) λ v. known (signed v)
 
 abbrev parts : Format Expr → Tag → Format Expr
-parts part Tag.word = named word
-parts part Tag.declared =
+parts part Tag.Word = named word
+parts part Tag.Declared =
     then integer λ k. then integer λ K. then (field 4) λ l. then (field 4) λ n.
     known (declared k K l n)
-parts part Tag.negated = then part λ x. known (negated x)
-parts part Tag.on = both part on
-parts part Tag.clock = named clock
+parts part Tag.Not = then part λ x. known (negated x)
+parts part Tag.On = both part on
+parts part Tag.Clock = named clock
 
 abbrev plain : ℕ → Format Expr
 plain zero = tested tag λ t. fails too_deep
@@ -76,22 +77,22 @@ module _ (s : List ℕ) where
   plain_read : (x : Expr) (d a c : ℕ) → Fits x → depth x ≤ d → Bytes s a (spell x) c → run (plain d) s a ≡ got x c
   unfolding depth spell run signed_at
   plain_read x zero a c f p b = absurd (omega (arith, some_depth x))
-  plain_read (word i) (suc d) a c f p b = behind d a Tag.word b ∙ named_read word i (suc a) c f (tail b)
+  plain_read (word i) (suc d) a c f p b = behind d a Tag.Word b ∙ named_read word i (suc a) c f (tail b)
   plain_read (declared k K l n) (suc d) a c f p b =
       let p₁ = split (bytes_of 4 (twos k)) _ (tail b) in
       let p₂ = split (bytes_of 4 (twos K)) _ p₁.2 in
       let p₃ = split (bytes_of 4 l) _ p₂.2 in
-      behind d a Tag.declared b
+      behind d a Tag.Declared b
       ∙ rw (
         signed_got s (suc a) k p₁.0 f.0 p₁.1,
         signed_got s p₁.0 K p₂.0 f.1 p₂.1,
         field_got s 4 p₂.0 l p₃.0 f.2 p₃.1,
         field_got s 4 p₃.0 n c f.3 p₃.2,
       )
-  plain_read (negated x) (suc d) a c f p b = behind d a Tag.negated b ∙ rw (plain_read x d (suc a) c f (omega arith) (tail b))
+  plain_read (negated x) (suc d) a c f p b = behind d a Tag.Not b ∙ rw (plain_read x d (suc a) c f (omega arith) (tail b))
   plain_read (on x y) (suc d) a c f p b =
-      behind d a Tag.on b ∙ both_read d on x y (suc a) c (tail b) (λ a c. plain_read x d a c f.0 (omega arith)) (λ a c. plain_read y d a c f.1 (omega arith))
-  plain_read (clock i) (suc d) a c f p b = behind d a Tag.clock b ∙ named_read clock i (suc a) c f (tail b)
+      behind d a Tag.On b ∙ both_read d on x y (suc a) c (tail b) (λ a c. plain_read x d a c f.0 (omega arith)) (λ a c. plain_read y d a c f.1 (omega arith))
+  plain_read (clock i) (suc d) a c f p b = behind d a Tag.Clock b ∙ named_read clock i (suc a) c f (tail b)
 
 pub spell_free : {s : List ℕ} (x y : Expr) (a c d : ℕ) → Fits x → Fits y → Bytes s a (spell x) c → Bytes s a (spell y) d → (x ≡ y) × (c ≡ d)
 spell_free {s} x y a c d h k b b' =

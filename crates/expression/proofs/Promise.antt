@@ -1,13 +1,10 @@
 -- The promises on expressions are kept. Assumes nothing.
-use mathlib.Core.Path.{◌≡◌, sym, ap}
 use mathlib.Core.List.{List}
 use Prim.Native.Nat.{ℕ, ◌≤◌}
 use lib.ListN.{length}
-use Rattle.field.specs.declared.Cursor.{Cursor}
 use Rattle.field.specs.Spelling.{AllBytes}
-use Rattle.field.proofs.Read.{refused_got}
+use Rattle.field.proofs.Promise.{one_answer as one_read}
 use Rattle.envelope.specs.declared.Node.{Node}
-use Rattle.expression.specs.declared.Value.{Value}
 use Rattle.expression.specs.Expression.{Word, Clock}
 use Rattle.expression.specs.Evaluate.{Worked}
 use Rattle.expression.specs.Inner.Nodes.{AllTaken}
@@ -42,10 +39,4 @@ reading s ws cs bytes tw tc hw hc =
     }
 
 pub one_answer : OneValue
-one_answer (Value.Got x c) (Value.Got y d) e =
-    let z : c.at ≡ d.at = cc in
-    let same : c ≡ d = ap {B = Cursor} (λ a. record { at = a }) z in
-    cc
-one_answer (Value.Got x c) (Value.Refused n p) e = refused_got (sym e)
-one_answer (Value.Refused n p) (Value.Got y d) e = refused_got e
-one_answer (Value.Refused n p) (Value.Refused m q) e = cc
+one_answer r q e = one_read.one_answer r q e

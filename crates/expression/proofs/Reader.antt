@@ -15,11 +15,11 @@ use Rattle.field.proofs.SignedFields.{signed_in_bytes}
 use Rattle.field.proofs.Format.{read_piece, piece_read, piece_bytes, ranged_piece, signed_piece}
 use Rattle.envelope.specs.declared.Envelope.{Envelope}
 use Rattle.envelope.specs.declared.Node.{Node}
-use Rattle.envelope.specs.declared.Made.{Made}
-use Rattle.envelope.specs.declared.Made.TheVariants.{Good, Empty, FullRate, Outgrown}
+use Rattle.std.specs.Prelude.{Ok, Err}
 use Rattle.envelope.specs.Limits.{l_most, lower_least, lower_most, upper_least, upper_most}
-use Rattle.envelope.specs.Made.{on_within_limits}
-use Rattle.expression.specs.Expression.{Tag, tag_number, Expr, depth, spell}
+use Rattle.envelope.specs.Made.{Made, on_within_limits}
+use Rattle.expression.specs.declared.Tag.{Tag}
+use Rattle.expression.specs.Expression.{tag_number, Expr, depth, spell}
 use Rattle.expression.specs.Evaluate.{Worth, Worth.good, worth_of, joint, listed, evaluate}
 use Rattle.expression.specs.Reader.{expr_at}
 use Rattle.expression.specs.Format.{Valued, tag, found, named, both, parts, kept, expression}
@@ -34,15 +34,13 @@ use Rattle.expression.proofs.Blame.{place, answered}
 fails_passes : {A B : Type 0} {number : ℕ} {x : A} → ◌≡◌ {A = Judged A} (fails number) (passes x) → B
 fails_passes h = let z : ◌≡◌ {A = ℕ} 0 1 = cc in absurd (omega arith)
 
-kept_passes : (x : Expr) (m : Made) (y : Valued) → kept x m ≡ passes y → (x ≡ y.expr) × (m ≡ Good y.node)
-kept_passes x (Good a) y h =
+kept_passes : (x : Expr) (m : Made) (y : Valued) → kept x m ≡ passes y → (x ≡ y.expr) × (m ≡ Ok y.node)
+kept_passes x (Ok a) y h =
     let z : ◌≡◌ {A = Valued} (record { expr = x; node = a }) y = cc in
-    (ap (λ (v : Valued). v.expr) z, ap (λ (v : Valued). Good v.node) z)
-kept_passes x Empty y h = fails_passes h
-kept_passes x FullRate y h = fails_passes h
-kept_passes x Outgrown y h = fails_passes h
+    (ap (λ (v : Valued). v.expr) z, ap (λ (v : Valued). Ok v.node) z)
+kept_passes x (Err f) y h = fails_passes h
 
-found_passes : (x : Expr) (o : Option Node) (r : Expr × Made) → found x o ≡ passes r → (e : Node) × (o ≡ some e) × (◌≡◌ {A = Expr × Made} (x, Good e) r)
+found_passes : (x : Expr) (o : Option Node) (r : Expr × Made) → found x o ≡ passes r → (e : Node) × (o ≡ some e) × (◌≡◌ {A = Expr × Made} (x, Ok e) r)
 found_passes x none r h = fails_passes h
 found_passes x (some e) r h = (e, refl, cc)
 
@@ -86,8 +84,8 @@ module _ (s : List ℕ) (ws cs : List Node) where
 
     parts_follow : (t : Tag) (b : ℕ) (r : Expr × Made) (c : ℕ) → Piece s (parts ws cs part t) b r c → Follows d t b r c
     unfolding parts depth evaluate spell
-    parts_follow Tag.word b r c p = named_follows d Tag.word Expr.word ws (λ i. refl) (λ i. refl) (λ i. refl) b r c p
-    parts_follow Tag.declared b r c p =
+    parts_follow Tag.Word b r c p = named_follows d Tag.Word Expr.word ws (λ i. refl) (λ i. refl) (λ i. refl) b r c p
+    parts_follow Tag.Declared b r c p =
         let q₁ = p.3 in
         let q₂ = q₁.3 in
         let q₃ = q₂.3 in
@@ -105,15 +103,15 @@ module _ (s : List ℕ) (ws cs : List Node) where
               (join (field_in_bytes s all 4 1 (l_most + 1) beyond q₁.1 q₂.0 q₂.1 l).3
               (field_in_bytes s all 4 1 (q₂.0 + 1) beyond q₂.1 q₃.0 q₃.1 n).3))));
         })
-    parts_follow Tag.negated b r c p =
+    parts_follow Tag.Not b r c p =
         let x = ih b p.0 p.1 p.2 in
         rw (← p.3.0) (record {
           shallow = omega (arith, x.shallow);
           value = rw x.value;
           bytes = λ all a h. rw (← p.3.1) (join h (x.bytes all));
         })
-    parts_follow Tag.on b r c p = both_follows Tag.on Expr.on on_within_limits (λ x y. refl) (λ x y. refl) (λ x y. refl) b r c p
-    parts_follow Tag.clock b r c p = named_follows d Tag.clock Expr.clock cs (λ i. refl) (λ i. refl) (λ i. refl) b r c p
+    parts_follow Tag.On b r c p = both_follows Tag.On Expr.on on_within_limits (λ x y. refl) (λ x y. refl) (λ x y. refl) b r c p
+    parts_follow Tag.Clock b r c p = named_follows d Tag.Clock Expr.clock cs (λ i. refl) (λ i. refl) (λ i. refl) b r c p
 
   piece_accepted : (d a : ℕ) (y : Valued) (c : ℕ) → Piece s (expression d ws cs) a y c → Accepted d a y c
   unfolding expression

@@ -7,10 +7,6 @@ use Prim.Native.Nat.{ℕ, zero, suc, ◌+◌, ◌*◌, ◌/◌, ◌<◌}
 use native.Mathlib.Omega.{arith}
 use lib.IntN.{ℤ, pos, nat_abs}
 use lib.ListN.{length, get_or, get_elem?}
-use mir.Syntax.{w32, w64}
-use mir.Val.{SFits, to_z, of_z}
-use mir.Facts.{to_z-of_z}
-use Rattle.whole.proofs.Bridge.{sfits_reads, sfits_shows}
 use Rattle.envelope.specs.declared.Node.{Node}
 use Rattle.expression.specs.Inner.Nodes.{per_node, HasNode, flat, flats, node_from, nodes_in, node_at, AllTaken, HoldsNodes}
 
@@ -46,16 +42,6 @@ node_at_lem (k ∷ (K ∷ (l ∷ (n ∷ t)))) (suc i) h =
   where
     same : {a b c d a' b' c' d' : ℤ} → a ≡ a' → b ≡ b' → c ≡ c' → d ≡ d' → node_from a b c d ≡ node_from a' b' c' d'
     same p q r s = λ i. node_from (p i) (q i) (r i) (s i)
-
--- a slice of m nodes, with one more
-pub nodes_more : (m : ℕ) (t : List ℤ) (x : Node) → length t ≡ per_node * m → nodes_in (t ++ flat x) ≡ nodes_in t ++ (x ∷ [])
-unfolding nodes_in
-nodes_more m [] x h = refl
-nodes_more m (k ∷ []) x h = absurd (omega arith)
-nodes_more m (k ∷ (K ∷ [])) x h = absurd (omega arith)
-nodes_more m (k ∷ (K ∷ (l ∷ []))) x h = absurd (omega arith)
-nodes_more zero (k ∷ (K ∷ (l ∷ (n ∷ t)))) x h = absurd (omega arith)
-nodes_more (suc m) (k ∷ (K ∷ (l ∷ (n ∷ t)))) x h = ap {B = List Node} (λ r. node_from k K l n ∷ r) (nodes_more m t x (omega arith))
 
 -- ---- nodes laid flat
 
@@ -97,11 +83,3 @@ pub holds_unsigned : (t : List ℤ) (i : ℕ) → HoldsNodes t → HasNode t i �
 holds_unsigned t i h l =
     subst (λ (x : List ℤ). Unsigned x (per_node * i + 2) × Unsigned x (per_node * i + 3)) h.flat_is
     (unsigned_at (nodes_in t) i (omega (arith, nodes_many t)))
-
--- ---- a number of 32 bits, in 64
-module _ (x : ℤ) (f : SFits w32 x) where
-  pub wide : SFits w64 (to_z w32 (of_z w32 x))
-  wide = rw (to_z-of_z f) (sfits_shows (omega (arith, sfits_reads f)))
-
-  pub wide_held : to_z w64 (of_z w64 (to_z w32 (of_z w32 x))) ≡ x
-  wide_held = to_z-of_z wide ∙ to_z-of_z f

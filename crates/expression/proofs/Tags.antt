@@ -14,10 +14,10 @@ use Rattle.field.specs.Field.{field_at, field_in}
 use Rattle.field.specs.Format.{Judged, Judged.passes, Judged.fails}
 use Rattle.field.specs.Run.{settled, run}
 use Rattle.field.specs.Spelling.{AllBytes, Bytes}
-use Rattle.field.proofs.Read.{mapped_got, mapped_refused}
 use Rattle.field.proofs.Spelling.{first, one_byte, limit1}
 use Rattle.field.proofs.Fields.{field_got, byte_in_bytes}
-use Rattle.expression.specs.Expression.{Tag, tag_number, tag_most, Expr, depth, spell}
+use Rattle.expression.specs.declared.Tag.{Tag}
+use Rattle.expression.specs.Expression.{tag_number, tag_most, Expr, depth, spell}
 use Rattle.expression.specs.Format.{tags, tag_of, tag}
 
 -- the numbers of these tags follow one another, from n on
@@ -51,17 +51,12 @@ pub says : (v : ℕ) → Says 1 (tag_most + 1) v (tag_of tags v)
 says v = says_among tags 1 v (refl, (refl, (refl, (refl, (refl, tt)))))
 
 -- and a tag's number says that tag
-pub known_tag : (t : Tag) → tag_of tags (tag_number t) ≡ passes t
-known_tag Tag.word = refl
-known_tag Tag.declared = refl
-known_tag Tag.negated = refl
-known_tag Tag.on = refl
-known_tag Tag.clock = refl
-
-pub same_tag : (t u : Tag) → tag_number t ≡ tag_number u → t ≡ u
-same_tag t u e =
-    let z : ◌≡◌ {A = Judged Tag} (passes t) (passes u) = sym (known_tag t) ∙ ap (tag_of tags) e ∙ known_tag u in
-    cc
+known_tag : (t : Tag) → tag_of tags (tag_number t) ≡ passes t
+known_tag Tag.Word = refl
+known_tag Tag.Declared = refl
+known_tag Tag.Not = refl
+known_tag Tag.On = refl
+known_tag Tag.Clock = refl
 
 tag_range : (t : Tag) → Says 1 (tag_most + 1) (tag_number t) (passes t)
 tag_range t = rw (known_tag t) at (says (tag_number t))
@@ -82,12 +77,6 @@ module _ (s : List ℕ) where
           ≡ (bind r λ v c. cond (leb 1 v) (cond (ltb v (tag_most + 1)) (got v c) (refused unknown a)) (refused unknown a))
       go (got v c) = by v c (tag_of tags v) (says v)
       go (refused number p) = refl
-
-  pub tag_read : (a v c : ℕ) → field_in 1 1 (tag_most + 1) unknown s a ≡ got v c → (t : Tag) × (run tag s a ≡ got t c) × (tag_number t ≡ v)
-  tag_read a v c e = mapped_got tag_number (run tag s a) v c (tag_run a ∙ e)
-
-  pub tag_refused : (a number p : ℕ) → field_in 1 1 (tag_most + 1) unknown s a ≡ refused number p → run tag s a ≡ refused number p
-  tag_refused a number p e = mapped_refused tag_number (run tag s a) number p (tag_run a ∙ e)
 
   -- a tag is read exactly where its number stands
   pub tag_bytes : AllBytes s → (a : ℕ) (t : Tag) (c : ℕ) → run tag s a ≡ got t c → Bytes s a (tag_number t ∷ []) c

@@ -1,16 +1,14 @@
 -- What the rules make of an expression: a node with its envelope, or the number of a refusal.
-use Rattle.std.specs.Prelude.{◌≡◌, Bool, cond, ◌&&◌, List, map, ℕ, ℤ, leb, length, take}
+use Rattle.std.specs.Prelude.{◌≡◌, Bool, cond, ◌&&◌, List, map, ℕ, ℤ, leb, length, take, Ok, Err}
 use Rattle.std.proofs.Math.Option.{Option, none, some}
 use Rattle.std.proofs.Math.ListN.{get_elem?}
 use Rattle.reply.specs.Numbers.{beyond, absent}
 use Rattle.field.specs.Field.{between_z}
 use Rattle.envelope.specs.declared.Envelope.{Envelope}
 use Rattle.envelope.specs.declared.Node.{Node}
-use Rattle.envelope.specs.declared.Made.{Made}
-use Rattle.envelope.specs.declared.Made.TheVariants.{Good, Empty, FullRate, Outgrown}
 use Rattle.envelope.specs.Limits.{l_most, lower_least, lower_most, upper_least, upper_most}
 use Rattle.envelope.specs.Word.{word_of}
-use Rattle.envelope.specs.Made.{number_of, node_of, declared_of, negated_of, on_within_limits}
+use Rattle.envelope.specs.Made.{Made, number_of, node_of, declared_of, negated_of, on_within_limits}
 use Rattle.expression.specs.Expression.{Word, Expr, Clock}
 use Rattle.expression.specs.Expression.Expr.{word, declared, negated, on, clock}
 
@@ -20,10 +18,8 @@ pub data Worth : Type 0 where
 
 -- what a rule makes, with the number that refuses it
 abbrev pub worth_of : Made → Worth
-worth_of (Good x) = good x
-worth_of Empty = fault (number_of Empty)
-worth_of FullRate = fault (number_of FullRate)
-worth_of Outgrown = fault (number_of Outgrown)
+worth_of (Ok x) = good x
+worth_of (Err flaw) = fault (number_of flaw)
 
 abbrev pub onward : Worth → (Node → Worth) → Worth
 onward (good x) go = go x

@@ -1,6 +1,7 @@
 -- Words, expressions and clocks as values, and how they are spelled in bytes.
 use Rattle.std.specs.Prelude.{List, ◌∷◌, ◌++◌, ℕ, suc, max, ℤ, length}
 use Rattle.field.specs.Spelling.{bytes_of, twos}
+use Rattle.expression.specs.declared.Tag.{Tag}
 
 -- "u(v): prefix u, then v for ever"
 pub record Word : Type 0 where
@@ -8,19 +9,12 @@ pub record Word : Type 0 where
   pub period : List ℕ
 
 -- "1 word; 2 declared; 3 not; 4 on; 5 earlier clock"
-pub data Tag : Type 0 where
-  word : Tag
-  declared : Tag
-  negated : Tag
-  on : Tag
-  clock : Tag
-
 abbrev pub tag_number : Tag → ℕ
-tag_number Tag.word = 1
-tag_number Tag.declared = 2
-tag_number Tag.negated = 3
-tag_number Tag.on = 4
-tag_number Tag.clock = 5
+tag_number Tag.Word = 1
+tag_number Tag.Declared = 2
+tag_number Tag.Not = 3
+tag_number Tag.On = 4
+tag_number Tag.Clock = 5
 
 -- the largest of these numbers
 abbrev pub tag_most : ℕ
@@ -53,11 +47,11 @@ depth_most = 12
 
 -- "An expression is a tag u8 and its parts"
 unfoldable pub spell : Expr → List ℕ
-spell (Expr.word i) = tag_number Tag.word ∷ bytes_of 2 i
-spell (Expr.declared k K l n) = tag_number Tag.declared ∷ (bytes_of 4 (twos k) ++ (bytes_of 4 (twos K) ++ (bytes_of 4 l ++ bytes_of 4 n)))
-spell (Expr.negated x) = tag_number Tag.negated ∷ spell x
-spell (Expr.on x y) = tag_number Tag.on ∷ (spell x ++ spell y)
-spell (Expr.clock i) = tag_number Tag.clock ∷ bytes_of 2 i
+spell (Expr.word i) = tag_number Tag.Word ∷ bytes_of 2 i
+spell (Expr.declared k K l n) = tag_number Tag.Declared ∷ (bytes_of 4 (twos k) ++ (bytes_of 4 (twos K) ++ (bytes_of 4 l ++ bytes_of 4 n)))
+spell (Expr.negated x) = tag_number Tag.Not ∷ spell x
+spell (Expr.on x y) = tag_number Tag.On ∷ (spell x ++ spell y)
+spell (Expr.clock i) = tag_number Tag.Clock ∷ bytes_of 2 i
 
 -- "prefix length u8, period length u8, prefix bits, period bits, one byte 0 or 1 each"
 abbrev pub spell_word : Word → List ℕ

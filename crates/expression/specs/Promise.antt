@@ -1,18 +1,20 @@
 -- What is proved of expressions, one field for each promise.
-use Rattle.std.specs.Prelude.{◌≡◌, List, ℕ, ◌+◌, ◌≤◌, ◌<◌, length, take}
+use Rattle.std.specs.Prelude.{◌≡◌, List, ℕ, ◌+◌, ◌≤◌, ◌<◌, length, take, Result}
 use Rattle.std.proofs.Math.Option.{some}
 use Rattle.std.proofs.Math.ListN.{get_elem?}
 use Rattle.field.specs.Read.{Read.got, Read.refused}
+use Rattle.field.specs.Field.{read_of}
 use Rattle.field.specs.Spelling.{Bytes}
+use Rattle.field.specs.declared.Cursor.{Cursor}
+use Rattle.reply.specs.declared.Refusal.{Refusal}
 use Rattle.envelope.specs.declared.Node.{Node}
 use Rattle.envelope.specs.Stream.{Stream, Lies}
 use Rattle.envelope.specs.Envelope.{Taken}
 use Rattle.envelope.specs.Word.{LegalWord}
-use Rattle.expression.specs.declared.Value.{Value}
 use Rattle.expression.specs.Expression.{Word, Expr, Clock, depth, spell}
 use Rattle.expression.specs.Stands.{Stands}
 use Rattle.expression.specs.Evaluate.{Worth.good, Worth.fault, evaluate, word_nodes}
-use Rattle.expression.specs.Reader.{expr_at, value_of}
+use Rattle.expression.specs.Reader.{expr_at}
 use Rattle.expression.specs.Format.{Valued}
 use Rattle.expression.specs.Inner.Nodes.{AllTaken}
 use Rattle.expression.specs.Spelled.{Fits, InRange, Spelled}
@@ -52,4 +54,4 @@ pub record Reading (s : List ℕ) (ws cs : List Node) : Type 0 where
 
 -- a contract that gives the reading decides the answer: no second one satisfies it
 abbrev pub OneValue : Type 0
-OneValue = (r q : Value) → value_of r ≡ value_of q → r ≡ q
+OneValue = (r q : Result (Node × Cursor) Refusal) → read_of r ≡ read_of q → r ≡ q

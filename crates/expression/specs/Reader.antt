@@ -1,9 +1,8 @@
 -- The reader of an expression: its value and its node, or the first refusal with its place.
 use Rattle.std.specs.Prelude.{List, ℕ}
-use Rattle.field.specs.Read.{Read, Read.got, Read.refused}
+use Rattle.field.specs.Read.{Read}
 use Rattle.field.specs.Run.{run}
 use Rattle.envelope.specs.declared.Node.{Node}
-use Rattle.expression.specs.declared.Value.{Value}
 use Rattle.expression.specs.Format.{Valued, expression}
 
 -- an expression at a, with d levels left
@@ -13,8 +12,3 @@ expr_at d s ws cs a = run (expression d ws cs) s a
 -- the code keeps no expression, only its node
 abbrev pub node_in : Valued → Node
 node_in x = x.node
-
--- the code's answer, as a reading
-abbrev pub value_of : Value → Read Node
-value_of (Value.Got a c) = got a c.at
-value_of (Value.Refused number place) = refused number place

@@ -5,52 +5,94 @@ ghost use Rattle.std.specs.Prelude.{◌≡◌, ℕ, ◌+◌, ◌*◌, ◌<◌};
 ghost use Rattle.std.proofs.lemmas.List.Edits.{sets};
 ghost use Rattle.envelope.specs.Envelope.{Taken};
 ghost use Rattle.expression.specs.Evaluate.{worth_of};
+ghost use Rattle.field.specs.Field.{read_of};
 ghost use Rattle.field.specs.Read.{mapped};
-ghost use Rattle.expression.specs.Reader.{expr_at, node_in, value_of};
+ghost use Rattle.field.specs.Run.{run};
+ghost use Rattle.expression.specs.Format.{tags, tag_of, judged, tag};
+ghost use Rattle.expression.specs.Reader.{expr_at, node_in};
 ghost use Rattle.expression.specs.Inner.Nodes.{per_node, HasNode, flat, HoldsNodes, nodes_in, node_at};
 ghost use Rattle.expression.specs.Inner.Parts.{placed, listed_at, declared_at};
 ghost use Rattle.expression.specs.Inner.Skipping.{own_bytes, parts_of, HasExpr};
 
 use envelope::{Envelope, Made, Node};
-use field::{Cursor, Field, Signed};
+use field::{Cursor, Read};
+use reply::Cause;
 
-// The tags, by their numbers.
-const WORD: usize = 1;
-
-const DECLARED: usize = 2;
-
-const NOT: usize = 3;
-
-const ON: usize = 4;
-
-const CLOCK: usize = 5;
-
-// The largest of them.
-const TAG_MOST: usize = CLOCK;
-
-// How many numbers a node has in a table.
-pub const PER_NODE: usize = 4;
-
-// A node and the cursor past it; or a refusal's number and place.
-#[derive(Clone, Copy)]
-pub enum Value {
-    Got(Node, Cursor),
-    Refused(u8, usize),
+// What an expression begins with.
+#[derive(Clone, Copy, Debug, PartialEq, Eq)]
+enum Tag {
+    Word,
+    Declared,
+    Not,
+    On,
+    Clock,
 }
 
-// What a rule made, with the cursor past the node, or its refusal at the node's tag.
-fn place(made: Made, c: Cursor, tag: usize) -> Value
-    ensures { value_of result ≡ placed (worth_of made) c.at tag }
-{
-    match made {
-        Made::Good(x) => Value::Got(x, c),
-        Made::Empty => Value::Refused(reply::EMPTY, tag),
-        Made::FullRate => Value::Refused(reply::FULL_RATE, tag),
-        Made::Outgrown => Value::Refused(reply::OUTGROWN, tag),
+impl TryFrom<usize> for Tag {
+    type Error = Cause;
+
+    ghost try_from_gives = { λ number result. judged result ≡ tag_of tags number };
+
+    fn try_from(number: usize) -> Result<Tag, Cause> {
+        match number {
+            1 => Ok(Tag::Word),
+            2 => Ok(Tag::Declared),
+            3 => Ok(Tag::Not),
+            4 => Ok(Tag::On),
+            5 => Ok(Tag::Clock),
+            _ => Err(Cause::Unknown),
+        }
     }
 }
 
-// The node at index i of a table.
+impl Tag {
+    // The tag at the cursor.
+    #[tactic(auto, unfolding(field::specs::Run::run))]
+    fn read(c: Cursor, s: &[u8]) -> Read<Tag>
+        ensures { read_of result ≡ run tag s.now c.at }
+    {
+        let (number, d) = c.field(s, 1)?;
+        let tag = Tag::try_from(number).map_err(|cause| c.refusal(cause))?;
+        Ok((tag, d))
+    }
+
+    // How many bytes a node has besides its parts.
+    fn own_bytes(self) -> usize
+        ensures { result ≡ own_bytes self }
+    {
+        match self {
+            Tag::Word | Tag::Clock => 3,
+            Tag::Declared => 17,
+            Tag::Not | Tag::On => 1,
+        }
+    }
+
+    // How many parts it has.
+    fn parts(self) -> usize
+        ensures { result ≡ parts_of self }
+    {
+        match self {
+            Tag::Word | Tag::Declared | Tag::Clock => 0,
+            Tag::Not => 1,
+            Tag::On => 2,
+        }
+    }
+}
+
+// How many numbers a node has in a table: of 32 bits each, so that no memory but the stack is used, and half of what a `Node` takes.
+pub const PER_NODE: usize = 4;
+
+// What a rule made, with the cursor past the node, or its refusal at the node's tag.
+fn place(made: Made, c: Cursor, tag: Cursor) -> Read<Node>
+    ensures { read_of result ≡ placed (worth_of made) c.at tag.at }
+{
+    match made {
+        Ok(x) => Ok((x, c)),
+        Err(flaw) => Err(tag.refusal(flaw.into())),
+    }
+}
+
+// The node at index i of a table. By four reads: what std says of `as_chunks` did not prove the casts.
 pub fn entry(table: &[i32], i: usize) -> Node
     requires { (HasNode table.now i) × HoldsNodes table.now }
     ensures { result ≡ node_at table.now i }
@@ -73,128 +115,82 @@ pub fn store(x: Node, table: &mut [i32], i: usize)
 {
     let e = x.envelope;
     let at = PER_NODE * i;
-    let k = e.k as i32;
-    let top = e.K as i32;
-    let l = e.l as i32;
-    let n = e.n as i32;
-    table[at] = k;
-    table[at + 1] = top;
-    table[at + 2] = l;
-    table[at + 3] = n;
+    // copy_from_slice of the four was tried: 18% slower, since it asks whether they overlap
+    table[at] = e.k as i32;
+    table[at + 1] = e.K as i32;
+    table[at + 2] = e.l as i32;
+    table[at + 3] = e.n as i32;
 }
 
 // A word or an earlier clock, by its index in a table.
-fn listed(c: Cursor, s: &[u8], table: &[i32]) -> Value
+#[tactic(auto, unfolding(crate::specs::Inner::Parts::listed_at))]
+fn listed(c: Cursor, s: &[u8], table: &[i32]) -> Read<Node>
     requires { HoldsNodes table.now }
-    ensures { value_of result ≡ listed_at s.now table.now c.at }
+    ensures { read_of result ≡ listed_at s.now table.now c.at }
 {
-    match c.within(s, 2, 0, table.len() / PER_NODE, reply::ABSENT) {
-        Field::Refused(number, at) => Value::Refused(number, at),
-        Field::Got(i, d) => Value::Got(entry(table, i), d),
-    }
+    let (i, c) = c.within(s, 2, 0, table.len() / PER_NODE, Cause::Absent)?;
+    Ok((entry(table, i), c))
 }
 
 // A declared node, whose tag stands at `tag`.
-fn declared(c: Cursor, s: &[u8], tag: usize) -> Value
-    ensures { value_of result ≡ declared_at s.now tag c.at }
+#[tactic(auto, unfolding(crate::specs::Inner::Parts::declared_at))]
+fn declared(c: Cursor, s: &[u8], tag: Cursor) -> Read<Node>
+    ensures { read_of result ≡ declared_at s.now tag.at c.at }
 {
-    match c.signed_within(s, Envelope::LOWER_LEAST, Envelope::LOWER_MOST) {
-        Signed::Refused(number, at) => Value::Refused(number, at),
-        Signed::Got(k, c) => match c.signed_within(s, Envelope::UPPER_LEAST, Envelope::UPPER_MOST) {
-            Signed::Refused(number, at) => Value::Refused(number, at),
-            Signed::Got(top, c) => match c.within(
-                s,
-                4,
-                1,
-                Envelope::L_MOST as usize + 1,
-                reply::BEYOND,
-            ) {
-                Field::Refused(number, at) => Value::Refused(number, at),
-                Field::Got(l, c) => match c.within(s, 4, 1, l + 1, reply::BEYOND) {
-                    Field::Refused(number, at) => Value::Refused(number, at),
-                    Field::Got(n, c) => place(
-                        Envelope::declared(k, top, l as u64, n as u64),
-                        c,
-                        tag,
-                    ),
-                },
-            },
-        },
-    }
+    let (k, c) = c.signed_within(s, Envelope::LOWER_LEAST, Envelope::LOWER_MOST)?;
+    let (top, c) = c.signed_within(s, Envelope::UPPER_LEAST, Envelope::UPPER_MOST)?;
+    let (l, c) = c.within(s, 4, 1, Envelope::L_MOST as usize + 1, Cause::Beyond)?;
+    let (n, c) = c.within(s, 4, 1, l + 1, Cause::Beyond)?;
+    place(Envelope::declared(k, top, l as u64, n as u64), c, tag)
 }
 
 // An expression, of which `depth` levels are left.
-pub fn evaluate(start: Cursor, s: &[u8], words: &[i32], clocks: &[i32], depth: usize) -> Value
+pub fn evaluate(start: Cursor, s: &[u8], words: &[i32], clocks: &[i32], depth: usize) -> Read<Node>
     requires { HoldsNodes words.now × HoldsNodes clocks.now }
-    ensures { value_of result ≡ mapped node_in (expr_at depth s.now (nodes_in words.now) (nodes_in clocks.now) start.at) }
+    ensures { read_of result ≡ mapped node_in (expr_at depth s.now (nodes_in words.now) (nodes_in clocks.now) start.at) }
 {
-    let tag_at = start.at;
-    match start.within(s, 1, 1, TAG_MOST + 1, reply::UNKNOWN) {
-        Field::Refused(number, at) => Value::Refused(number, at),
-        Field::Got(tag, c) => {
-            if depth == 0 {
-                return Value::Refused(reply::TOO_DEEP, tag_at);
-            }
-            if tag == WORD {
-                return listed(c, s, words);
-            }
-            if tag == DECLARED {
-                return declared(c, s, tag_at);
-            }
-            if tag == CLOCK {
-                return listed(c, s, clocks);
-            }
-            let a = evaluate(c, s, words, clocks, depth - 1);
-            let Value::Got(x, d) = a else {
-                return a;
+    let (tag, c) = Tag::read(start, s)?;
+    if depth == 0 {
+        return Err(start.refusal(Cause::TooDeep));
+    }
+    match tag {
+        Tag::Word => listed(c, s, words),
+        Tag::Declared => declared(c, s, start),
+        // One arm, and no `?`: with an arm and `?` for each, a level took 496 bytes of stack in place of 304.
+        Tag::Not | Tag::On => {
+            let left = evaluate(c, s, words, clocks, depth - 1);
+            let Ok((x, mut c)) = left else {
+                return left;
             };
-            let e = x.envelope;
-            if tag == NOT {
-                return place(e.negated(), d, tag_at);
-            }
-            let b = evaluate(d, s, words, clocks, depth - 1);
-            let Value::Got(y, f) = b else {
-                return b;
+            let made = if let Tag::Not = tag {
+                x.envelope.negated()
+            } else {
+                let right = evaluate(c, s, words, clocks, depth - 1);
+                let Ok((y, next)) = right else {
+                    return right;
+                };
+                c = next;
+                x.envelope.on_within_limits(y.envelope)
             };
-            place(e.on_within_limits(y.envelope), f, tag_at)
+            place(made, c, start)
         }
-    }
-}
-
-// How many bytes a node has besides its parts.
-fn own_bytes(tag: usize) -> usize
-    ensures { result ≡ own_bytes tag }
-{
-    match tag {
-        WORD | CLOCK => 3,
-        DECLARED => 17,
-        _ => 1,
-    }
-}
-
-// How many parts it has.
-fn parts(tag: usize) -> usize
-    ensures { result ≡ parts_of tag }
-{
-    match tag {
-        WORD | CLOCK => 0,
-        DECLARED => 0,
-        NOT => 1,
-        _ => 2,
+        Tag::Clock => listed(c, s, clocks),
     }
 }
 
 // The place past the expression that stands at `start`: `left` counts the expressions still to skip.
+#[tactic(auto, using(crate::proofs::Skips::left_start, crate::proofs::Skips::left_none))]
 pub fn past(s: &[u8], start: usize) -> usize
     requires { (c : ℕ) × HasExpr s.now start c }
     ensures { (c : ℕ) → HasExpr s.now start c → result ≡ c }
 {
     let mut at = start;
     let mut left: usize = 1;
+    // No count up to a length: each node says how many are left.
     while 0 < left {
-        let tag = s[at] as usize;
-        at += own_bytes(tag);
-        left = left - 1 + parts(tag);
+        let tag = Tag::try_from(s[at] as usize).unwrap();
+        at += tag.own_bytes();
+        left = left - 1 + tag.parts();
     }
     at
 }

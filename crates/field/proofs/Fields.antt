@@ -9,9 +9,10 @@ use borrow.Author.Tests.{leb-true, ltb-true, le-leb, lt-leb, lt-ltb}
 use Rattle.reply.specs.Numbers.{missing}
 use Rattle.field.specs.Read.{Read, Read.got, Read.refused}
 use Rattle.field.specs.Spelling.{bytes_of, limit, AllBytes, Bytes, Bytes.done, Bytes.byte}
-use Rattle.field.specs.Field.{low_first, field_at, field_in, field_of}
+use Rattle.std.specs.Prelude.{Result, Ok}
+use Rattle.field.specs.Field.{low_first, field_at, field_in, read_of}
 use Rattle.field.specs.declared.Cursor.{Cursor}
-use Rattle.field.specs.declared.Field.{Field}
+use Rattle.reply.specs.declared.Refusal.{Refusal}
 use Rattle.field.proofs.Read.{through, cond_left}
 use Rattle.field.proofs.Spelling.{end, one_byte, limit_more, limit_most, limit1}
 
@@ -152,5 +153,5 @@ field_there w low high n s a v c e =
     record { least = r.0; most = r.1; past = sym f.1; there = f.2 }
 
 -- the same, by what the code's reader ensures
-pub there : (w low high n : ℕ) (s : List ℕ) (a : ℕ) {r : Field} {v : ℕ} {c : Cursor} → field_of r ≡ field_in w low high n s a → r ≡ Field.Got v c → There w low high s a v c.at
-there w low high n s a {r} {v} {c} e f = field_there w low high n s a v c.at (sym e ∙ ap field_of f)
+pub there : (w low high n : ℕ) (s : List ℕ) (a : ℕ) {r : Result (ℕ × Cursor) Refusal} {v : ℕ} {c : Cursor} → read_of r ≡ field_in w low high n s a → r ≡ Ok (v, c) → There w low high s a v c.at
+there w low high n s a {r} {v} {c} e f = field_there w low high n s a v c.at (sym e ∙ ap read_of f)

@@ -1,14 +1,14 @@
 -- The promises on fields are kept. Assumes nothing.
-use mathlib.Core.Path.{◌≡◌, sym, ap}
+use mathlib.Core.Path.{◌≡◌, sym, ap, ◌∙◌}
 use mathlib.Core.List.{List}
 use Prim.Native.Nat.{ℕ}
+use Rattle.std.specs.Prelude.{Result}
 use Rattle.field.specs.Spelling.{AllBytes}
-use Rattle.field.specs.Field.{low_first, signed, field_of, signed_of}
+use Rattle.field.specs.Field.{low_first, signed, read_of, answer_of}
 use Rattle.field.specs.Promise.{FieldPromise, SignedPromise, OneAnswer}
 use Rattle.field.specs.declared.Cursor.{Cursor}
-use Rattle.field.specs.declared.Field.{Field}
-use Rattle.field.specs.declared.Signed.{Signed}
-use Rattle.field.proofs.Read.{refused_got}
+use Rattle.reply.specs.declared.Refusal.{Refusal}
+use Rattle.field.proofs.Read.{answered}
 use Rattle.field.proofs.Fields.{same_field, field_short, field_whole, field_bytes, field_got}
 use Rattle.field.proofs.SignedFields.{same_signed, signed_short, signed_whole, signed_bytes, signed_got}
 
@@ -32,20 +32,8 @@ signed_promise s a bytes =
       only = λ x y c d h k p q. same_signed x y h k p q;
     }
 
-same_cursor : (c d : Cursor) → c.at ≡ d.at → c ≡ d
-same_cursor c d e = ap (λ (a : ℕ). record { at = a }) e
-
-one_field : (r q : Field) → field_of r ≡ field_of q → r ≡ q
-one_field (Field.Got v c) (Field.Got u d) e = cc (same_cursor c d (cc e))
-one_field (Field.Got v c) (Field.Refused n p) e = refused_got (sym e)
-one_field (Field.Refused n p) (Field.Got v c) e = refused_got e
-one_field (Field.Refused n p) (Field.Refused m q) e = cc
-
-one_signed : (r q : Signed) → signed_of r ≡ signed_of q → r ≡ q
-one_signed (Signed.Got v c) (Signed.Got u d) e = cc (same_cursor c d (cc e))
-one_signed (Signed.Got v c) (Signed.Refused n p) e = refused_got (sym e)
-one_signed (Signed.Refused n p) (Signed.Got v c) e = refused_got e
-one_signed (Signed.Refused n p) (Signed.Refused m q) e = cc
+one : {A : Type 0} (r q : Result (A × Cursor) Refusal) → read_of r ≡ read_of q → r ≡ q
+one r q e = sym (answered r) ∙ ap answer_of e ∙ answered q
 
 pub one_answer : OneAnswer
-one_answer = record { one_field = one_field; one_signed = one_signed }
+one_answer = record { one_answer = one }

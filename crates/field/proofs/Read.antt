@@ -1,13 +1,18 @@
 -- Laws of readings: what a chain of steps that ends well went through. Assumes nothing.
-use mathlib.Core.Path.{◌≡◌, refl, sym, ap}
+use mathlib.Core.Path.{◌≡◌, refl, sym, ap, ◌∙◌}
 use mathlib.Core.Bool.{Bool, true, false, cond}
 use Prim.Native.Nat.{ℕ}
-use native.Mathlib.Omega.{arith}
+use Rattle.std.specs.Prelude.{Result, Ok, Err}
+use Rattle.reply.specs.declared.Cause.{Cause}
+use Rattle.reply.specs.declared.Refusal.{Refusal}
+use Rattle.reply.proofs.Causes.{cause_with_number}
+use Rattle.field.specs.declared.Cursor.{Cursor}
+use Rattle.field.specs.Field.{read_of, answer_of}
 use Rattle.field.specs.Read.{Read, Read.got, Read.refused, bind, mapped}
 
 -- a refusal is no piece
 pub refused_got : {A B : Type 0} {n p c : ℕ} {x : A} → ◌≡◌ {A = Read A} (refused n p) (got x c) → B
-refused_got e = let z : ◌≡◌ {A = ℕ} 0 1 = cc in absurd (omega arith)
+refused_got e = absurd (cc)
 
 -- a piece that follows another
 pub through : {A B : Type 0} (f : Read A) (go : A → ℕ → Read B) (y : B) (c : ℕ) → bind f go ≡ got y c → (x : A) × (d : ℕ) × (f ≡ got x d) × (go x d ≡ got y c)
@@ -36,3 +41,13 @@ mapped_got f (refused number place) y c h = refused_got h
 pub mapped_refused : {A B : Type 0} (f : A → B) (r : Read A) (number place : ℕ) → mapped f r ≡ refused number place → r ≡ refused number place
 mapped_refused f (got x d) number place h = refused_got (sym h)
 mapped_refused {A} f (refused k q) number place h = same_refused (λ m p. ◌≡◌ {A = Read A} (refused k q) (refused m p)) h refl
+
+-- ---- the code's answers: each is the one of its reading
+
+pub answered : {A : Type 0} (r : Result (A × Cursor) Refusal) → answer_of (read_of r) ≡ r
+answered (Ok (x, c)) = refl
+answered (Err r) = ap (λ (k : Cause). Err (record { cause = k; place = r.place })) (cause_with_number r.cause)
+
+-- an answer whose reading is known
+pub answer_is : {A : Type 0} {r : Result (A × Cursor) Refusal} {f : Read A} → read_of r ≡ f → r ≡ answer_of f
+answer_is {r = r} e = sym (answered r) ∙ ap answer_of e

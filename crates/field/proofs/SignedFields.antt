@@ -1,5 +1,5 @@
 -- Laws of signed fields: two's complement both ways, and what is read is what is spelled there. Assumes nothing.
-use mathlib.Core.Path.{◌≡◌, refl, sym, ap, ap₂, ◌∙◌}
+use mathlib.Core.Path.{◌≡◌, refl, sym, ap, ◌∙◌}
 use mathlib.Core.Bool.{Bool, true, false, cond}
 use mathlib.Core.List.{List}
 use Prim.Native.Nat.{ℕ, ◌+◌, ◌≤◌, ◌<◌}
@@ -7,9 +7,6 @@ use native.Mathlib.Omega.{arith}
 use lib.IntN.{ℤ, pos, negsuc}
 use lib.Signed.{◌≤ℤ◌, lt_z}
 use lib.ListN.{length}
-use mir.Syntax.{w64}
-use mir.Val.{to_z, of_z, SFits}
-use mir.ValLaws.{to_z-of_z}
 use Rattle.reply.specs.Numbers.{missing, beyond}
 use Rattle.whole.proofs.Bridge.{apart, orders, signed as signs}
 use Rattle.field.specs.Read.{Read.got, Read.refused}
@@ -74,8 +71,8 @@ pub between_z_true : (low high z : ℤ) → between_z low high z ≡ true → (l
 between_z_true low high z h = go (lt_z z low) (lt_z high z) refl refl h
   where
     go : (x y : Bool) → lt_z z low ≡ x → lt_z high z ≡ y → cond x false (cond y false true) ≡ true → (low ≤ℤ z) × (z ≤ℤ high)
-    go true y e f h = let w : ◌≡◌ {A = ℕ} 0 1 = cc in absurd (omega arith)
-    go false true e f h = let w : ◌≡◌ {A = ℕ} 0 1 = cc in absurd (omega arith)
+    go true y e f h = absurd (cc)
+    go false true e f h = absurd (cc)
     go false false e f h = (omega (arith, signs), omega (arith, signs))
 
 pub between_z_holds : (low high z : ℤ) → low ≤ℤ z → z ≤ℤ high → between_z low high z ≡ true
@@ -107,7 +104,3 @@ unfolding signed_in
 signed_in_got s low high a z c m m' p q b =
     let h : Small z = record { least = omega (arith, orders); most = omega (arith, orders) } in
     rw (signed_got s a z c h b, between_z_holds low high z p q)
-
--- ---- a signed test, as the machine makes it
-pub signed_test : (v u : ℤ) (b : Bool) → SFits w64 v → SFits w64 u → lt_z (to_z w64 (of_z w64 v)) (to_z w64 (of_z w64 u)) ≡ b → lt_z v u ≡ b
-signed_test v u b f g e = ap₂ lt_z (sym (to_z-of_z w64 v f)) (sym (to_z-of_z w64 u g)) ∙ e

@@ -5,8 +5,10 @@ use Prim.Native.Nat.{ℕ, zero, suc, ◌+◌, ◌-◌, ◌*◌, ◌/◌, ◌%◌
 use native.Mathlib.Nat.{pow-suc, pow-le-pow_right}
 use native.Mathlib.Numerals.{add-one}
 use native.Mathlib.Omega.{arith}
-use lib.ListN.{length, set, take, drop, length-append}
-use lib.Seq.{sets, drop-cons, take-length, get_or-append_seam}
+use borrow.Rule.Slice.PartMut.{put_mid}
+use lib.ListN.{length, set, take, drop, length-append, length-take, length-drop}
+use Rattle.std.proofs.lemmas.List.{drop_all, drop-drop}
+use lib.Seq.{sets, sets-eq, drop-cons, take-length, get_or-append_seam}
 use Rattle.field.specs.Spelling.{bytes_of, limit, Bytes, Bytes.done, Bytes.byte}
 
 module _ {s : List ℕ} where
@@ -125,3 +127,12 @@ lowest_first xs a (suc w) v h =
 pub none_left : (xs : List ℕ) (a v w : ℕ) → w ≡ 0 → sets xs a (bytes_of w v) ≡ xs
 unfolding bytes_of
 none_left xs a v w e = rw e
+
+-- a number put into a part of a list
+pub part_put : (xs : List ℕ) (a w n : ℕ) (ys : List ℕ) (v : ℕ) → n ≡ w → a + w ≤ length xs → ys ≡ sets (take n (drop a xs)) 0 (bytes_of w v) → put_mid a n xs ys ≡ sets xs a (bytes_of w v)
+part_put xs a w n ys v e h p =
+    let l = bytes_of_length w v in
+    let part : length (take w (drop a xs)) ≡ w = omega (arith, length-take w (drop a xs), length-drop a xs) in
+    let q : sets (take w (drop a xs)) 0 (bytes_of w v) ≡ bytes_of w v =
+    rw (sets-eq (bytes_of w v) (take w (drop a xs)) 0 (omega (arith, l, part)), drop_all (0 + length (bytes_of w v)) (take w (drop a xs)) (omega (arith, l, part))) (append-nil _) in
+    rw (p, e, q, drop-drop w a xs, sets-eq (bytes_of w v) xs a (omega (arith, l)), l) (sym (append_assoc (take a xs) (bytes_of w v) (drop (a + w) xs)))

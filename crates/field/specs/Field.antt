@@ -1,10 +1,11 @@
 -- Fields: the number that stands at a place, or the refusal with its place.
-use Rattle.std.specs.Prelude.{Bool, true, false, cond, List, ℕ, zero, suc, ◌+◌, ◌-◌, ◌*◌, ℤ, pos, negsuc, leb, ltb, length, get_or}
+use Rattle.std.specs.Prelude.{Bool, true, false, cond, List, ℕ, zero, suc, ◌+◌, ◌-◌, ◌*◌, ℤ, pos, negsuc, leb, ltb, length, get_or, Result, Ok, Err}
 use Rattle.std.specs.Int.Signed.{lt_z}
 use Rattle.reply.specs.Numbers.{missing, beyond}
 use Rattle.field.specs.Read.{Read, Read.got, Read.refused, bind}
-use Rattle.field.specs.declared.Field.{Field}
-use Rattle.field.specs.declared.Signed.{Signed}
+use Rattle.reply.specs.declared.Refusal.{Refusal}
+use Rattle.reply.specs.Refusal.{cause_number, refusal}
+use Rattle.field.specs.declared.Cursor.{Cursor}
 
 -- "Numbers are low byte first": the number that w bytes from a on spell
 unfoldable pub low_first : ℕ → List ℕ → ℕ → ℕ
@@ -40,11 +41,12 @@ between_z low high z = cond (lt_z z low) false (cond (lt_z high z) false true)
 unfoldable pub signed_in : ℤ → ℤ → List ℕ → ℕ → Read ℤ
 signed_in low high s a = bind (signed_at s a) λ z c. cond (between_z low high z) (got z c) (refused beyond a)
 
--- the code's answers, as readings: "a field plus the moved cursor or refusal and place"
-abbrev pub field_of : Field → Read ℕ
-field_of (Field.Got v c) = got v c.at
-field_of (Field.Refused number place) = refused number place
+-- the code's answer, as a reading: "a field plus the moved cursor or refusal and place"
+abbrev pub read_of : {A : Type 0} → Result (A × Cursor) Refusal → Read A
+read_of (Ok (x, c)) = got x c.at
+read_of (Err r) = refused (cause_number r.cause) r.place
 
-abbrev pub signed_of : Signed → Read ℤ
-signed_of (Signed.Got z c) = got z c.at
-signed_of (Signed.Refused number place) = refused number place
+-- and a reading, as the code answers it
+abbrev pub answer_of : {A : Type 0} → Read A → Result (A × Cursor) Refusal
+answer_of (got x place) = Ok (x, record { at = place })
+answer_of (refused number place) = Err (refusal number place)

@@ -1,11 +1,11 @@
 -- What is proved of fields, for every width, text and place.
-use Rattle.std.specs.Prelude.{◌≡◌, List, ℕ, ◌+◌, ◌≤◌, ◌<◌, length}
+use Rattle.std.specs.Prelude.{◌≡◌, List, ℕ, ◌+◌, ◌≤◌, ◌<◌, length, Result}
+use Rattle.reply.specs.declared.Refusal.{Refusal}
 use Rattle.reply.specs.Numbers.{missing}
 use Rattle.field.specs.Read.{Read, Read.got, Read.refused}
 use Rattle.field.specs.Spelling.{bytes_of, limit, twos, Small, Bytes}
-use Rattle.field.specs.Field.{field_at, signed_at, field_of, signed_of}
-use Rattle.field.specs.declared.Field.{Field}
-use Rattle.field.specs.declared.Signed.{Signed}
+use Rattle.field.specs.Field.{field_at, signed_at, read_of}
+use Rattle.field.specs.declared.Cursor.{Cursor}
 
 -- a reading of w bytes at a place is faithful to how numbers of a kind are spelled
 pub record Faithful {A : Type 0} (w : ℕ) (In : A → Type 0) (spelled : A → List ℕ) (read : Read A) (s : List ℕ) (a : ℕ) : Type 0 where
@@ -29,6 +29,5 @@ abbrev pub SignedPromise : List ℕ → ℕ → Type 0
 SignedPromise s a = Faithful 4 Small (λ z. bytes_of 4 (twos z)) (signed_at s a) s a
 
 -- a contract that gives the reading decides the answer: no second one satisfies it
-pub record OneAnswer : Type 0 where
-  pub one_field : (r q : Field) → field_of r ≡ field_of q → r ≡ q
-  pub one_signed : (r q : Signed) → signed_of r ≡ signed_of q → r ≡ q
+pub record OneAnswer : Type 1 where
+  pub one_answer : {A : Type 0} (r q : Result (A × Cursor) Refusal) → read_of r ≡ read_of q → r ≡ q

@@ -4,88 +4,82 @@
 mod number;
 
 ghost use Rattle.std.specs.Prelude.{◌≡◌, ◌≤◌};
-ghost use Rattle.field.specs.Field.{field_at, field_in, signed_at, signed_in, field_of, signed_of};
+ghost use Rattle.reply.specs.Refusal.{cause_number};
+ghost use Rattle.field.specs.Field.{field_at, field_in, signed_at, signed_in, read_of};
 
 pub use number::{HALF_32, HALF_64, from_twos, low_first, put_low_first, to_twos};
+use reply::{Cause, Refusal};
 
-#[derive(Clone, Copy)]
+#[derive(Clone, Copy, Debug, PartialEq, Eq)]
 pub struct Cursor {
     pub at: usize,
 }
 
-// A field's number and the cursor past it; or a refusal's number and place.
-#[derive(Clone, Copy)]
-pub enum Field {
-    Got(usize, Cursor),
-    Refused(u8, usize),
-}
-
-// The same with a signed number.
-#[derive(Clone, Copy)]
-pub enum Signed {
-    Got(i64, Cursor),
-    Refused(u8, usize),
-}
+// What was read and the cursor past it; or the refusal.
+pub type Read<T> = Result<(T, Cursor), Refusal>;
 
 impl Cursor {
-    // A field of `width` bytes.
-    pub fn field(self, s: &[u8], width: usize) -> Field
-        requires { width ≤ 4 }
-        ensures { field_of result ≡ field_at width s.now self.at }
+    // The refusal of what stands here.
+    pub fn refusal(self, cause: Cause) -> Refusal
+        ensures { result ≡ record { cause = cause; place = self.at } }
     {
-        let at = self.at;
-        if at <= s.len() {
-            if width <= s.len() - at {
-                return Field::Got(low_first(s, at, width), Cursor { at: at + width });
-            }
+        Refusal {
+            cause,
+            place: self.at,
         }
-        Field::Refused(reply::MISSING, at)
     }
 
-    // A field whose number is to be at least `low` and below `high`: else the refusal `number` at the field.
-    pub fn within(self, s: &[u8], width: usize, low: usize, high: usize, number: u8) -> Field
+    // A field of `width` bytes.
+    #[tactic(auto, using(crate::proofs::Fields::field_short, crate::proofs::Fields::field_whole))]
+    pub fn field(self, s: &[u8], width: usize) -> Read<usize>
         requires { width ≤ 4 }
-        ensures { field_of result ≡ field_in width low high number s.now self.at }
+        ensures { read_of result ≡ field_at width s.now self.at }
     {
         let at = self.at;
-        let f = self.field(s, width);
-        let Field::Got(v, _) = f else {
-            return f;
-        };
-        if v < low {
-            return Field::Refused(number, at);
+        if at <= s.len() && width <= s.len() - at {
+            return Ok((low_first(s, at, width), Cursor { at: at + width }));
         }
-        if high <= v {
-            return Field::Refused(number, at);
+        Err(self.refusal(Cause::Missing))
+    }
+
+    // A field whose number is to be at least `low` and below `high`: else it is refused for `cause`, at the field.
+    #[tactic(auto, unfolding(crate::specs::Field::field_in))]
+    pub fn within(
+        self,
+        s: &[u8],
+        width: usize,
+        low: usize,
+        high: usize,
+        cause: Cause,
+    ) -> Read<usize>
+        requires { width ≤ 4 }
+        ensures { read_of result ≡ field_in width low high (cause_number cause) s.now self.at }
+    {
+        let (v, next) = self.field(s, width)?;
+        if v < low || high <= v {
+            return Err(self.refusal(cause));
         }
-        f
+        Ok((v, next))
     }
 
     // A field of four bytes in two's complement.
-    pub fn signed(self, s: &[u8]) -> Signed
-        ensures { signed_of result ≡ signed_at s.now self.at }
+    #[tactic(auto, unfolding(crate::specs::Field::signed_at, crate::specs::Field::signed))]
+    pub fn signed(self, s: &[u8]) -> Read<i64>
+        ensures { read_of result ≡ signed_at s.now self.at }
     {
-        match self.field(s, 4) {
-            Field::Got(v, c) => Signed::Got(from_twos(v as u64, HALF_32), c),
-            Field::Refused(number, place) => Signed::Refused(number, place),
-        }
+        let (v, next) = self.field(s, 4)?;
+        Ok((from_twos(v as u64, HALF_32), next))
     }
 
-    // A signed field from `low` to `high`: else it is beyond its limit, at the field.
-    pub fn signed_within(self, s: &[u8], low: i64, high: i64) -> Signed
-        ensures { signed_of result ≡ signed_in low high s.now self.at }
+    // A signed field from `low` to `high`: else it is beyond its limit, at the field. Not `within`: that `high` is the first too large, for counts that end a range.
+    #[tactic(auto, unfolding(crate::specs::Field::signed_in))]
+    pub fn signed_within(self, s: &[u8], low: i64, high: i64) -> Read<i64>
+        ensures { read_of result ≡ signed_in low high s.now self.at }
     {
-        let at = self.at;
-        let f = self.signed(s);
-        let Signed::Got(z, _) = f else {
-            return f;
-        };
-        if z < low {
-            return Signed::Refused(reply::BEYOND, at);
+        let (z, next) = self.signed(s)?;
+        if z < low || high < z {
+            return Err(self.refusal(Cause::Beyond));
         }
-        if high < z {
-            return Signed::Refused(reply::BEYOND, at);
-        }
-        f
+        Ok((z, next))
     }
 }

@@ -16,11 +16,8 @@ pub fn low_first(s: &[u8], at: usize, width: usize) -> usize
     ensures { result ≡ low_first width s.now at }
 {
     let mut v: usize = 0;
-    let mut i = width;
-    while 0 < i {
-        i -= 1;
-        let b = s[at + i] as usize;
-        v = v * 256 + b;
+    for i in (0..width).rev() {
+        v = v * 256 + s[at + i] as usize;
     }
     v
 }
@@ -32,16 +29,15 @@ pub fn put_low_first(out: &mut [u8], at: usize, width: usize, x: u64) -> usize
     ensures bytes { out.new ≡ sets out.old at (bytes_of width x) }
 {
     let mut rest = x;
-    let mut i: usize = 0;
-    while i < width {
-        out[at + i] = (rest % 256) as u8;
-        rest = rest / 256;
-        i += 1;
+    for byte in out[at..at + width].iter_mut() {
+        *byte = (rest % 256) as u8;
+        rest /= 256;
     }
-    at + i
+    at + width
 }
 
 // The number that bits stand for, where `half` of the numbers that they can spell are below 0.
+// By hand, since it serves both widths: the library has a `cast_signed` for each.
 pub fn from_twos(v: u64, half: u64) -> i64
     requires { (v < half + half) × (half ≤ 9223372036854775808) }
     ensures { result ≡ signed_by half v }
@@ -54,12 +50,9 @@ pub fn from_twos(v: u64, half: u64) -> i64
 }
 
 // The 64 bits of a number.
+#[tactic(auto, unfolding(crate::specs::Spelling::twos_by))]
 pub fn to_twos(z: i64) -> u64
     ensures { result ≡ twos_by 9223372036854775808 z }
 {
-    let m = whole::magnitude(z);
-    if z < 0 {
-        return HALF_64 - m + HALF_64;
-    }
-    m
+    z.cast_unsigned()
 }

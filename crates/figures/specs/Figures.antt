@@ -1,11 +1,13 @@
 -- "Figures to hold the work to. Starred ones are proved from the definitions, all together by one claim over one list."
-use Rattle.std.specs.Prelude.{List, [], ◌∷◌, ◌++◌, map, ℕ, zero, suc, pos, neg_ℤ, replicate}
+use Rattle.std.specs.Prelude.{List, [], ◌∷◌, ◌++◌, map, ℕ, zero, suc, pos, neg_ℤ, replicate, Result, Ok, Err}
 use Rattle.link.specs.Figures as links
 use Rattle.sizing.specs.Figures as sheets
 use Rattle.envelope.specs.declared.Envelope.{Envelope}
 use Rattle.envelope.specs.Envelope.{numbers}
+use Rattle.reply.specs.declared.Refusal.{Refusal}
+use Rattle.reply.specs.Refusal.{refusal}
 use Rattle.pattern.specs.declared.Answer.{Answer}
-use Rattle.pattern.specs.declared.Answer.TheVariants.{Inside, Done, Last, Refused}
+use Rattle.pattern.specs.declared.Answer.TheVariants.{Inside, Done, Last}
 use Rattle.pattern.specs.Answer.{check_answer, first_answer, first_bytes, next_answer, next_bytes}
 
 -- an envelope, a node or a verdict; a sheet worked out; the patterns of a walk; what a pattern's entry point answers
@@ -13,14 +15,14 @@ pub data Figure : Type 0 where
   number : links.Figure → Figure
   sheet : sheets.Answer → Figure
   patterns : List (List ℕ) → Figure
-  answer : Answer → Figure
+  answer : Result Answer Refusal → Figure
 
 -- what follows an answer: ps where that is "done"
-abbrev pub after_done : Answer → List (List ℕ) → List (List ℕ)
-after_done Inside ps = []
-after_done Done ps = ps
-after_done Last ps = []
-after_done (Refused n place) ps = []
+abbrev pub after_done : Result Answer Refusal → List (List ℕ) → List (List ℕ)
+after_done (Ok Inside) ps = []
+after_done (Ok Done) ps = ps
+after_done (Ok Last) ps = []
+after_done (Err r) ps = []
 
 -- p, and what "next" writes from there on: at most `most` patterns
 unfoldable pub walk_from : Envelope → ℕ → List ℕ → List (List ℕ)
@@ -58,7 +60,7 @@ said =
     ++ (map sheet sheets.said
     ++ (patterns ((0 ∷ 0 ∷ 0 ∷ 1 ∷ 0 ∷ []) ∷ (0 ∷ 0 ∷ 0 ∷ 1 ∷ 1 ∷ []) ∷ (0 ∷ 0 ∷ 1 ∷ 0 ∷ 0 ∷ []) ∷ (0 ∷ 0 ∷ 1 ∷ 0 ∷ 1 ∷ []) ∷ [])
     ∷ patterns ((0 ∷ 0 ∷ []) ∷ [])
-    ∷ answer (Refused 12 0)
-    ∷ answer (Refused 12 0)
-    ∷ answer (Refused 12 0)
+    ∷ answer (Err (refusal 12 0))
+    ∷ answer (Err (refusal 12 0))
+    ∷ answer (Err (refusal 12 0))
     ∷ []))

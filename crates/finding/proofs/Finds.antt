@@ -1,25 +1,29 @@
 -- What reading a sheet and finding a clock in it tell: where the clock begins and ends. Assumes nothing.
-use mathlib.Core.Path.{◌≡◌, refl, sym, ap, ◌∙◌}
+use mathlib.Core.Path.{◌≡◌, refl, ap}
 use mathlib.Core.List.{List, [], ◌∷◌}
 use mathlib.Core.Option.{none}
 use Prim.Native.Nat.{ℕ, zero, suc, ◌+◌, ◌≤◌, ◌<◌}
 use native.Mathlib.Numerals.{add-one}
 use native.Mathlib.Omega.{arith}
 use lib.ListN.{length, get_elem?}
+use Rattle.std.specs.Prelude.{Ok, Err}
 use Rattle.reply.specs.Numbers.{no_clock}
-use Rattle.field.specs.Read.{Read, Read.got, Read.refused, mapped}
+use Rattle.reply.specs.declared.Refusal.{Refusal}
+use Rattle.reply.specs.Refusal.{cause_number, refusal}
+use Rattle.reply.proofs.Causes.{number_back}
+use Rattle.field.specs.Read.{Read, Read.got, Read.refused, bind, mapped}
 use Rattle.field.specs.Spelling.{AllBytes}
 use Rattle.expression.specs.Expression.{spell_word}
 use Rattle.expression.specs.Inner.Skipping.{HasExpr}
 use Rattle.expression.proofs.Lookup.{lookup_there}
 use Rattle.reading.specs.declared.Found.{Found}
-use Rattle.reading.specs.declared.Reading.{Reading}
 use Rattle.sheet.specs.Sheet.{rows, section}
 use Rattle.sheet.specs.Reader.{read_sheet}
 use Rattle.sheet.specs.SheetRead.{SheetRead}
 use Rattle.reading.specs.Inner.Sections.{found_of, reading_of}
+use Rattle.sheet.proofs.Refusing.Numbers.{one_to_ten}
 use Rattle.sheet.proofs.Spelling.Sheets.{sheet_reads}
-use Rattle.sheet.specs.Locating.{clock_place, place_of, located_in}
+use Rattle.sheet.specs.Locating.{clock_place, place_of, listed_clock, located_in}
 use Rattle.finding.specs.Inner.Skipping.{HasClocks}
 use Rattle.sheet.proofs.Spelling.Places.{next_place}
 use Rattle.finding.proofs.Skips.{clock_expr}
@@ -37,51 +41,49 @@ pub record Chosen (s : List ℕ) (first i : ℕ) : Type 0 where
   pub reads : read_sheet s ≡ got opened past
   pub clocks : HasClocks s first (i + 1) opened.sheet
 
--- ---- a sheet that was read
-module _ (s : List ℕ) (r : Reading) (told : r ≡ reading_of (read_sheet s)) where
-  read_refused : (number place : ℕ) → r ≡ Reading.Refused number place → read_sheet s ≡ refused number place
-  read_refused number place e = go (read_sheet s) (sym e ∙ told)
-    where
-      go : (x : Read SheetRead) → Reading.Refused number place ≡ reading_of x → x ≡ refused number place
-      go (got o c) h = let z : ◌≡◌ {A = ℕ} 0 1 = cc in absurd (omega arith)
-      go (refused n p) h =
-          let a : n ≡ number = cc in
-          let b : p ≡ place = cc in
-          rw (a, b)
+-- ---- by what the code's reader answered: a refusal
+pub find_refused : (s : List ℕ) (e : Refusal) → reading_of (read_sheet s) ≡ Err e → (i : ℕ) → refused (cause_number e.cause) e.place ≡ mapped place_of (located_in s i)
+unfolding located_in
+find_refused s e told i = go (read_sheet s) refl told
+  where
+    go : (x : Read SheetRead) → read_sheet s ≡ x → reading_of x ≡ Err e
+        → refused (cause_number e.cause) e.place ≡ mapped place_of (bind x λ o c. listed_clock o.sheet i (get_elem? o.sheet.clocks i))
+    go (got o c) h q = absurd (cc)
+    go (refused number place) h q =
+        let is : refusal number place ≡ e = cc in
+        let few = one_to_ten s number place h in
+        rw (← is, number_back number few.0 (omega (arith, few.1)))
 
-  read_got : (f : Found) → r ≡ Reading.Got f → (o : SheetRead) × (c : ℕ) × (read_sheet s ≡ got o c) × (f ≡ found_of o)
-  read_got f e = go (read_sheet s) refl (sym e ∙ told)
+-- or what was found
+module _ (s : List ℕ) (bytes : AllBytes s) (f : Found) (told : reading_of (read_sheet s) ≡ Ok f) where
+  whole : (o : SheetRead) × (c : ℕ) × (read_sheet s ≡ got o c) × (f ≡ found_of o)
+  whole = go (read_sheet s) refl told
     where
-      go : (x : Read SheetRead) → read_sheet s ≡ x → Reading.Got f ≡ reading_of x → (o : SheetRead) × (c : ℕ) × (read_sheet s ≡ got o c) × (f ≡ found_of o)
+      go : (x : Read SheetRead) → read_sheet s ≡ x → reading_of x ≡ Ok f → (o : SheetRead) × (c : ℕ) × (read_sheet s ≡ got o c) × (f ≡ found_of o)
       go (got o c) h q = (o, c, h, cc)
-      go (refused n p) h q = let z : ◌≡◌ {A = ℕ} 0 1 = cc in absurd (omega arith)
+      go (refused number place) h q = absurd (cc)
 
-  pub find_refused : (i number place : ℕ) → r ≡ Reading.Refused number place → refused number place ≡ mapped place_of (located_in s i)
+  pub find_absent : (i : ℕ) → f.clocks ≤ i → refused no_clock 0 ≡ mapped place_of (located_in s i)
   unfolding located_in
-  find_refused i number place e = rw (read_refused number place e)
+  find_absent i few =
+      let w = whole in
+      let o = sheet_reads s bytes w.0 w.1 w.2 in
+      let n : f.clocks ≡ length w.0.table = ap (λ (x : Found). x.clocks) w.3 in
+      rw (w.2, past_the_last w.0.sheet.clocks i (omega (arith, o.worked.many)))
 
-  module _ (bytes : AllBytes s) (f : Found) (is : r ≡ Reading.Got f) (i : ℕ) where
-    pub find_absent : f.clocks ≤ i → refused no_clock 0 ≡ mapped place_of (located_in s i)
-    unfolding located_in
-    find_absent few =
-        let w = read_got f is in
-        let o = sheet_reads s bytes w.0 w.1 w.2 in
-        let n : f.clocks ≡ length w.0.table = ap (λ (x : Found). x.clocks) w.3 in
-        rw (w.2, past_the_last w.0.sheet.clocks i (omega (arith, o.worked.many)))
-
-    pub find_chosen : i < f.clocks → Chosen s f.clockrows i
-    unfolding clock_place rows
-    find_chosen lt =
-        let w = read_got f is in
-        let o = sheet_reads s bytes w.0 w.1 w.2 in
-        let n : f.clocks ≡ length w.0.table = ap (λ (x : Found). x.clocks) w.3 in
-        let b : f.clockrows ≡ length (section spell_word w.0.sheet.words) + 2 = ap (λ (x : Found). x.clockrows) w.3 in
-        record {
-          opened = w.0;
-          past = w.1;
-          reads = w.2;
-          clocks = record { text = o.bytes; begins = b; many = omega (arith, o.worked.many) };
-        }
+  pub find_chosen : (i : ℕ) → i < f.clocks → Chosen s f.clockrows i
+  unfolding clock_place rows
+  find_chosen i lt =
+      let w = whole in
+      let o = sheet_reads s bytes w.0 w.1 w.2 in
+      let n : f.clocks ≡ length w.0.table = ap (λ (x : Found). x.clocks) w.3 in
+      let b : f.clockrows ≡ length (section spell_word w.0.sheet.words) + 2 = ap (λ (x : Found). x.clockrows) w.3 in
+      record {
+        opened = w.0;
+        past = w.1;
+        reads = w.2;
+        clocks = record { text = o.bytes; begins = b; many = omega (arith, o.worked.many) };
+      }
 
 module _ {s : List ℕ} {first i : ℕ} (chosen : Chosen s first i) where
   -- the clocks before it

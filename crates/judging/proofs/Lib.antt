@@ -1,4 +1,4 @@
 pub mod Offsets
 pub mod Loops
 pub mod Sweeps
-pub mod Judging
+pub mod Admitted

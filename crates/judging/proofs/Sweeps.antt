@@ -1,7 +1,8 @@
 -- What a sweep finds: an offset is held as what it is above the floor, and within the room every step may be taken.
 -- Assumes nothing.
-use Rattle.std.proofs.Common.{◌≡◌, ℕ, zero, suc, ◌+◌, ◌*◌, ◌%◌, ◌^◌, ◌≤◌, true, false, List, [], ◌∷◌, drop, ℤ, pos, ◌+ℤ◌, ◌≤ℤ◌, sym, ap, ◌∙◌, subst, add-zero, add_assoc, add-suc, mod-eq_of_lt, suc-add, mul-le-mul_left, mul-zero, zero-add, mul-one, mul-suc, arith}
-use native.Mathlib.Nat.{mod-add-mod, add-mod-mod}
+use Rattle.std.proofs.Common.{◌≡◌, ℕ, zero, suc, ◌+◌, ◌-◌, ◌*◌, ◌%◌, ◌^◌, ◌≤◌, Bool, true, false, leb, List, length, length-drop, refl, [], ◌∷◌, take, drop, ℤ, pos, ◌+ℤ◌, ◌≤ℤ◌, sym, ap, ◌∙◌, subst, add-zero, mul-le-mul_left, mul-zero, zero-add, mul-one, mul-suc, arith}
+use Rattle.std.proofs.Math.Seq.{take_all}
+use Rattle.std.proofs.Math.Dec.{eqb-suc-zero}
 use lib.Signed.{le_z, lt_z}
 use Rattle.whole.proofs.Bridge.{up, down, sum, diff, whole_ext, lt_z_false, ≤ℤ-reads, ≤ℤ-shows}
 use Rattle.envelope.specs.Limits.{l_most}
@@ -9,6 +10,7 @@ use Rattle.envelope.specs.declared.Envelope.{Envelope}
 use Rattle.envelope.specs.Envelope.{Taken}
 use Rattle.envelope.proofs.Held.{k_up, k_down, K_up, K_down}
 use Rattle.envelope.proofs.Tests.{is_true}
+use Rattle.judging.specs.Bytes.{plain}
 use Rattle.judging.specs.Inner.Scan.{one_at, zero_at, may_at, step_of, offset_after, scanned, leading_of, floor_of}
 
 module _ (e : Envelope) where
@@ -40,13 +42,15 @@ module _ (e : Envelope) where
   lead_on : (p : List ℕ) (i : ℕ) → pos (e.n * (i + leading_of p)) ≤ℤ e.K → scanned e i (pos (e.n * i)) p ≡ scanned e (i + leading_of p) (pos (e.n * (i + leading_of p))) (drop (leading_of p) p)
   unfolding zero_at
   lead_on [] i h = rw add-zero
-  lead_on (suc b ∷ p) i h = rw add-zero
+  lead_on (suc b ∷ p) i h = rw (eqb-suc-zero b, add-zero)
   lead_on (zero ∷ p) i h =
-      let k : pos (e.n * (suc i + leading_of p)) ≤ℤ e.K = subst (λ (t : ℕ). pos (e.n * t) ≤ℤ e.K) (add-suc i (leading_of p) ∙ sym (suc-add i (leading_of p))) h in
+      let t : i + (1 + leading_of p) ≡ suc i + leading_of p = omega arith in
+      let s : 1 + leading_of p ≡ suc (leading_of p) = omega arith in
+      let k : pos (e.n * (suc i + leading_of p)) ≤ℤ e.K = subst (λ (t : ℕ). pos (e.n * t) ≤ℤ e.K) t h in
       let more : e.n * suc i ≤ e.n * (suc i + leading_of p) = mul-le-mul_left e.n (omega arith) in
       let on : offset_after e (pos (e.n * i)) 0 ≡ pos (e.n * suc i) = whole_ext (omega (arith, sum (pos (e.n * i)) (pos e.n), mul-suc e.n i)) in
       let fits : offset_after e (pos (e.n * i)) 0 ≤ℤ e.K = rw on (≤ℤ-shows (omega (arith, ≤ℤ-reads k, more))) in
-      rw (is_true (zero_at e (pos (e.n * i))) fits.le, on, add-suc i (leading_of p), ← suc-add i (leading_of p)) (lead_on p (suc i) k)
+      rw (is_true (zero_at e (pos (e.n * i))) fits.le, on, t, s) (lead_on p (suc i) k)
 
   pub lead_from : (p : List ℕ) (t : ℕ) → t ≡ leading_of p → pos (e.n * t) ≤ℤ e.K → scanned e 0 (pos 0) p ≡ scanned e t (pos (e.n * t)) (drop t p)
   lead_from p t q h =
@@ -73,12 +77,18 @@ within_room r room low x top p q h =
     omega (arith, sum (pos r) low, sum (pos room) low, ap up p, ap down p, ap up q, ap down q, ≤ℤ-reads h)
 
 -- a step of n - b and then the sum, both of which may wrap: a result that is small has not gone below 0
-pub not_wrapped : (r x step b n : ℕ) → r ≡ (x + step) % 2 ^ 64 → (step + b) % 2 ^ 64 ≡ n → r ≤ 2_001_000_000 → x ≤ 2_001_000_000 → b ≤ l_most → n ≤ l_most → r + b ≡ x + n
-not_wrapped r x step b n q s hr hx hb hn =
-    sym (mod-eq_of_lt {n = r + b} {m = 2 ^ 64} (omega arith))
-    ∙ ap (λ (z : ℕ). (z + b) % 2 ^ 64) q
-    ∙ mod-add-mod (x + step) (2 ^ 64) b
-    ∙ ap (λ (z : ℕ). z % 2 ^ 64) (add_assoc x step b)
-    ∙ sym (add-mod-mod x (step + b) (2 ^ 64))
-    ∙ ap (λ (z : ℕ). (x + z) % 2 ^ 64) s
-    ∙ mod-eq_of_lt {n = x + n} {m = 2 ^ 64} (omega arith)
+pub not_wrapped : (x b n : ℕ) → x ≤ 2_001_000_000 → b ≤ l_most → n ≤ l_most → (x + (n + (2 ^ 64 - b)) % 2 ^ 64) % 2 ^ 64 ≤ 2_001_000_000 → (x + (n + (2 ^ 64 - b)) % 2 ^ 64) % 2 ^ 64 + b ≡ x + n
+not_wrapped x b n hx hb hn hr = omega arith
+
+-- bits after some bits
+pub plain_drop : (p : List ℕ) (t : ℕ) → length p ≤ plain p → length (drop t p) ≤ plain (drop t p)
+plain_drop p zero h = h
+plain_drop [] (suc t) h = omega arith
+plain_drop (b ∷ p) (suc t) h = go (leb b 1) refl (plain_drop p t)
+  where
+    go : (x : Bool) → leb b 1 ≡ x → (length p ≤ plain p → length (drop t p) ≤ plain (drop t p)) → length (drop t p) ≤ plain (drop t p)
+    go true q ih = let k = rw q at h in ih (omega arith)
+    go false q ih = let k = rw q at h in absurd (omega arith)
+
+pub rest_is : (p : List ℕ) (t : ℕ) → take (length p - t) (drop t p) ≡ drop t p
+rest_is p t = take_all (length p - t) (drop t p) (omega (arith, length-drop t p))

@@ -1,30 +1,25 @@
 // Whether a pattern is inside an envelope.
 #![tactic(auto)]
 
-ghost use Rattle.std.specs.Prelude.{◌≡◌, ◌-◌, ◌<◌, ◌≤◌, length, drop, pos, ◌+ℤ◌, ◌≤ℤ◌};
+ghost use Rattle.std.specs.Prelude.{◌≡◌, ◌<◌, ◌≤◌, length, pos, ◌+ℤ◌, ◌≤ℤ◌, IfSome};
 ghost use Rattle.envelope.specs.Envelope.{Taken};
-ghost use Rattle.judging.specs.declared.Judged.TheVariants.{Sound};
 ghost use Rattle.judging.specs.Bytes.{longest, plain};
-ghost use Rattle.judging.specs.Inner.Scan.{Near, one_at, zero_at, may_at, step_of, offset_after, scanned, leading_of, floor_of, largest_from, judged};
+ghost use Rattle.judging.specs.Inner.Scan.{Near, one_at, zero_at, may_at, step_of, offset_after, scanned, leading_of, floor_of, largest_from, Swept, admitted, judged};
 
 use envelope::Envelope;
+use reply::{Cause, Refusal};
 
 // A pattern's most bits.
 pub const LONGEST: usize = 4_096;
 
-// n*i - l*j past a pattern that is inside, or a refusal's number and place.
-#[derive(Clone, Copy)]
-pub enum Judged {
-    Sound(i64),
-    Unsound(u8, usize),
-}
+// e and d stay two parameters, and Taken and a pattern's bounds clauses: e is one through a pattern and d new at each bit, `next` writes the pattern, and envelope's methods ask for Taken too.
 
 // Whether a 1 may follow where n*i - l*j is d.
 pub fn one_at(e: Envelope, d: i64) -> bool
     requires { Taken e }
     ensures { result ≡ one_at e d }
 {
-    if e.k <= d { d <= e.K } else { false }
+    e.k <= d && d <= e.K
 }
 
 // Whether a 0 may follow there.
@@ -60,35 +55,29 @@ pub fn moved_on(e: Envelope, d: i64, b: u8) -> i64
 }
 
 // One pass: the first forbidden step, or n*i - l*j past the end.
-fn scan(e: Envelope, pattern: &[u8]) -> Judged
+fn scan(e: Envelope, pattern: &[u8]) -> Result<i64, Refusal>
     requires { Taken e × (length pattern.now ≤ longest) × (length pattern.now ≤ plain pattern.now) }
     ensures { result ≡ scanned e 0 (pos 0) pattern.now }
 {
     let mut d: i64 = 0;
-    let mut i = 0;
-    while i < pattern.len() {
-        let b = pattern[i];
+    for (i, &b) in pattern.iter().enumerate() {
         if !may_follow(e, d, b) {
-            return Judged::Unsound(reply::OUTSIDE, i);
+            return Err(Refusal {
+                cause: Cause::Outside,
+                place: i,
+            });
         }
         d = moved_on(e, d, b);
-        i += 1;
     }
-    Judged::Sound(d)
+    Ok(d)
 }
 
 // How many 0s a pattern begins with.
 fn leading(pattern: &[u8]) -> usize
-    ensures { result ≡ leading_of pattern.now }
+    ensures number { result ≡ leading_of pattern.now }
+    ensures within { result ≤ length pattern.now }
 {
-    let mut i = 0;
-    while i < pattern.len() {
-        if pattern[i] != 0 {
-            return i;
-        }
-        i += 1;
-    }
-    i
+    pattern.iter().take_while(|b| **b == 0).count()
 }
 
 // The least n*i - l*j that a 1 may leave behind.
@@ -107,70 +96,55 @@ fn above(x: i64, low: i64) -> u64
     (x - low) as u64
 }
 
-// How far above the floor a pattern ends; more than the room where it is outside. Below the floor a number wraps and is large: one test a bit.
-fn sweep(e: Envelope, room: u64, pattern: &[u8], from: usize, start: u64) -> u64
-    requires taken { Taken e × (length pattern.now ≤ plain pattern.now) × (from ≤ length pattern.now) }
+// How far above the floor some bits end, where they begin at `start`; None where they pass the room. Below the floor a number wraps and is large: one test a bit.
+fn sweep(e: Envelope, room: u64, bits: &[u8], start: u64) -> Option<u64>
+    requires taken { Taken e × (length bits.now ≤ plain bits.now) }
     requires e_value { (pos room +ℤ floor_of e ≡ e.K) × (start ≤ room) }
-    ensures { result ≤ room → scanned e from (pos start +ℤ floor_of e) (drop from pattern.now) ≡ Sound (pos result +ℤ floor_of e) }
+    ensures { IfSome result (λ x. (x ≤ room) × Swept e (pos start +ℤ floor_of e) bits.now (pos x +ℤ floor_of e)) }
 {
     let mut x = start;
-    let mut i = from;
-    while i < pattern.len() {
-        let step = std::num::wrapping_sub_u64(e.n, e.l * (pattern[i] as u64));
-        x = std::num::wrapping_add_u64(x, step);
+    for &b in bits {
+        let step = e.n.wrapping_sub(e.l * (b as u64));
+        x = x.wrapping_add(step);
         if room < x {
-            return x;
+            break;
         }
-        i += 1;
     }
-    x
+    if x <= room { Some(x) } else { None }
 }
 
 // The same from the start: no 1 stands before `leading`, so that none can be too early there.
-fn height(e: Envelope, low: i64, room: u64, pattern: &[u8]) -> u64
+fn height(e: Envelope, low: i64, room: u64, pattern: &[u8]) -> Option<u64>
     requires taken { Taken e × (length pattern.now ≤ longest) × (length pattern.now ≤ plain pattern.now) }
     requires low_value { (low ≡ floor_of e) × (pos room +ℤ low ≡ e.K) }
-    ensures { result ≤ room → scanned e 0 (pos 0) pattern.now ≡ Sound (pos result +ℤ floor_of e) }
+    ensures { IfSome result (λ x. (x ≤ room) × (scanned e 0 (pos 0) pattern.now ≡ Ok (pos x +ℤ floor_of e))) }
 {
     let from = leading(pattern);
     let start = (e.n * (from as u64)) as i64;
-    if start < low {
-        return room + 1;
+    if start < low || e.K < start {
+        return None;
     }
-    if e.K < start {
-        return room + 1;
-    }
-    sweep(e, room, pattern, from, above(start, low))
+    sweep(e, room, &pattern[from..], above(start, low))
 }
 
 // The first forbidden step, or n*i - l*j past the end; looked for bit by bit only where a sweep finds one, or can't tell.
-fn sweep_or_scan(e: Envelope, pattern: &[u8]) -> Judged
+fn sweep_or_scan(e: Envelope, pattern: &[u8]) -> Result<i64, Refusal>
     requires { Taken e × (length pattern.now ≤ longest) × (length pattern.now ≤ plain pattern.now) }
     ensures { result ≡ scanned e 0 (pos 0) pattern.now }
 {
     let low = floor(e);
     let room = above(e.K, low);
-    let x = height(e, low, room, pattern);
-    if room < x {
-        return scan(e, pattern);
+    match height(e, low, room, pattern) {
+        Some(x) => Ok(x as i64 + low),
+        None => scan(e, pattern),
     }
-    Judged::Sound(x as i64 + low)
 }
 
 // The largest byte: a loop with no way out, of which the compiler makes vectors.
 fn largest(pattern: &[u8]) -> u8
     ensures { result ≡ largest_from 0 pattern.now }
 {
-    let mut most: u8 = 0;
-    let mut i = 0;
-    while i < pattern.len() {
-        let b = pattern[i];
-        if most < b {
-            most = b;
-        }
-        i += 1;
-    }
-    most
+    pattern.iter().fold(0, |most, b| most.max(*b))
 }
 
 // How many bytes come before the first that is neither 0 nor 1.
@@ -180,29 +154,39 @@ fn plain_len(pattern: &[u8]) -> usize
     if largest(pattern) <= 1 {
         return pattern.len();
     }
-    let mut i = 0;
-    while i < pattern.len() {
-        if 1 < pattern[i] {
-            return i;
-        }
-        i += 1;
+    pattern.iter().take_while(|b| **b <= 1).count()
+}
+
+// 12 where four numbers are no taken envelope, 13 where a pattern is too long.
+pub fn admit(e: Envelope, pattern: &[u8]) -> Result<(), Refusal>
+    ensures { result ≡ admitted e pattern.now }
+{
+    if !e.is_taken() {
+        return Err(Refusal {
+            cause: Cause::NoEnvelope,
+            place: 0,
+        });
     }
-    i
+    if LONGEST < pattern.len() {
+        return Err(Refusal {
+            cause: Cause::LongPattern,
+            place: 0,
+        });
+    }
+    Ok(())
 }
 
 // 12 to 15, or n*i - l*j past a pattern that is inside.
-pub fn judge(e: Envelope, pattern: &[u8]) -> Judged
+pub fn judge(e: Envelope, pattern: &[u8]) -> Result<i64, Refusal>
     ensures { result ≡ judged e pattern.now }
 {
-    if !e.is_taken() {
-        return Judged::Unsound(reply::NO_ENVELOPE, 0);
-    }
-    if LONGEST < pattern.len() {
-        return Judged::Unsound(reply::LONG_PATTERN, 0);
-    }
+    admit(e, pattern)?;
     let plain = plain_len(pattern);
     if plain < pattern.len() {
-        return Judged::Unsound(reply::NOT_A_BIT, plain);
+        return Err(Refusal {
+            cause: Cause::NotABit,
+            place: plain,
+        });
     }
     sweep_or_scan(e, pattern)
 }

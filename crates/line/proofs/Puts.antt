@@ -4,7 +4,7 @@ use mathlib.Core.List.{List, [], ◌∷◌, ◌++◌}
 use Prim.Native.Nat.{ℕ, suc, ◌+◌, ◌≤◌, ◌<◌, min}
 use native.Mathlib.Numerals.{add-one}
 use native.Mathlib.Omega.{arith}
-use lib.ListN.{length, length-set, set, get_or, drop}
+use lib.ListN.{length, length-set, set, get_or, drop, drop_of_length-le}
 use lib.Seq.{sets, drop-cons}
 use Rattle.line.specs.Text.{Out, out_of, top, blank, line_feed, put_one, put, fields_of, line_of, put_field, put_fields, put_line, Put}
 
@@ -45,6 +45,11 @@ put_length xs ys t a r p = ap (λ (o : Out). length o.bytes) p ∙ put_kept (out
 pub put_next : (o p : Out) (t : List ℕ) (i : ℕ) → i < length t → p ≡ put_one o (get_or t i 0) → put p (drop (i + 1) t) ≡ put o (drop i t)
 unfolding put
 put_next o p t i h e = rw (add-one i, drop-cons t i 0 h, e)
+
+-- none is left
+pub put_done : (o : Out) (t : List ℕ) (i : ℕ) → length t ≤ i → o ≡ put o (drop i t)
+unfolding put
+put_done o t i h = rw (drop_of_length-le t h)
 
 -- ---- where the text ends, and what the buffer holds where it fits
 pub put_past : (o : Out) (t : List ℕ) → o.at ≤ top → (put o t).at ≡ min (o.at + length t) top

@@ -1,8 +1,9 @@
-// Text in a lent buffer: each function puts its bytes from `at` on, and answers the place past them.
+// Text in a lent buffer, put byte by byte.
 #![tactic(auto)]
 
-ghost use Rattle.std.specs.Prelude.{◌≡◌};
-ghost use Rattle.line.specs.Text.{out_of, put_one, put_field, put_line, Put, digits, decimal, outcome_fields};
+ghost use Rattle.std.specs.Prelude.{◌≡◌, List, ℕ};
+ghost use Rattle.line.specs.Text.{out_of, put, put_one, put_field, put_line, digits, decimal, outcome_fields};
+ghost use Rattle.line.specs.Writing.{out_in, Leaves};
 
 pub const BLANK: u8 = 32;
 
@@ -10,86 +11,113 @@ pub const MINUS: u8 = 45;
 
 pub const LINE_FEED: u8 = 10;
 
-// Past the buffer's end nothing is written, and the places are counted on: so an empty buffer measures a text.
-pub fn put_byte(out: &mut [u8], at: usize, b: u8) -> usize
-    ensures { out_of out.new result ≡ put_one (out_of out.old at) b }
-{
-    if at < out.len() {
-        out[at] = b;
-        return at + 1;
+// A lent buffer, and the place where its next byte goes.
+#[derive(Drop)]
+pub struct Writer<'a> {
+    pub bytes: &'a mut [u8],
+    pub at: usize,
+}
+
+impl<'a> Writer<'a> {
+    pub fn new(bytes: &'a mut [u8]) -> Writer<'a>
+        ensures same { result.bytes.ghost_name ≡ bytes.entry.ghost_name }
+        ensures start { out_of result.bytes.now result.at ≡ out_of bytes.old 0 }
+    {
+        Writer { bytes, at: 0 }
     }
-    if at < usize::MAX {
-        return at + 1;
+
+    // Past the buffer's end nothing is written, and the places are counted on: so an empty buffer measures a text.
+    #[tactic(auto, using(std::proofs::lemmas::List::set_past), unfolding(crate::specs::Text::put_one))]
+    pub fn put_byte(&mut self, b: u8)
+        ensures { Leaves self.old self.new (put_one (out_in self.old) b) }
+    {
+        let at = self.at;
+        if at < self.bytes.len() {
+            self.bytes[at] = b;
+        }
+        self.at = at.saturating_add(1);
     }
-    at
-}
 
-pub fn put_bytes(out: &mut [u8], at: usize, text: &[u8]) -> usize
-    ensures { Put out.old at text.now out.new result }
-{
-    let mut next = at;
-    let mut i: usize = 0;
-    while i < text.len() {
-        next = put_byte(out, next, text[i]);
-        i += 1;
+    #[tactic(auto, using(crate::proofs::Puts::put_next, crate::proofs::Puts::put_done))]
+    pub fn put_bytes(&mut self, text: &[u8])
+        ensures { Leaves self.old self.new (put (out_in self.old) text.now) }
+    {
+        for b in text {
+            self.put_byte(*b);
+        }
     }
-    next
-}
 
-// The digits of x, the first ones by a call of its own, so that none is moved.
-pub fn put_digits(out: &mut [u8], at: usize, x: u64) -> usize
-    ensures { Put out.old at (digits x) out.new result }
-{
-    if x < 10 {
-        return put_byte(out, at, (48 + x) as u8);
+    // The digits of x, the first ones by a call of its own, so that none is moved.
+    #[tactic(auto, using(crate::proofs::Puts::put_then, crate::proofs::Digits::digits_few, crate::proofs::Digits::digits_more), unfolding(crate::specs::Text::put))]
+    pub fn put_digits(&mut self, x: u64)
+        ensures { Leaves self.old self.new (put (out_in self.old) (digits x)) }
+    {
+        if x < 10 {
+            self.put_byte((48 + x) as u8);
+            return;
+        }
+        self.put_digits(x / 10);
+        self.put_byte((48 + x % 10) as u8);
     }
-    let next = put_digits(out, at, x / 10);
-    put_byte(out, next, (48 + x % 10) as u8)
-}
 
-// A number of either sign.
-pub fn put_decimal(out: &mut [u8], at: usize, z: i64) -> usize
-    ensures { Put out.old at (decimal z) out.new result }
-{
-    let m = whole::magnitude(z);
-    if z < 0 {
-        let next = put_byte(out, at, MINUS);
-        return put_digits(out, next, m);
+    // A number of either sign.
+    pub fn put_decimal(&mut self, z: i64)
+        ensures { Leaves self.old self.new (put (out_in self.old) (decimal z)) }
+    {
+        if z < 0 {
+            self.put_byte(MINUS);
+        }
+        self.put_digits(whole::magnitude(z));
     }
-    put_digits(out, at, m)
+
+    // A blank and a text.
+    pub fn put_field<T: Text>(&mut self, t: T)
+        ensures { Leaves self.old self.new (put_field (out_in self.old) (T.text t)) }
+    {
+        self.put_byte(BLANK);
+        t.put(self);
+    }
+
+    // A word, a number, "at" and a place.
+    pub fn put_outcome(&mut self, word: &[u8], number: u64, place: u64)
+        ensures { Leaves self.old self.new (put_line (out_in self.old) word.now (outcome_fields number place)) }
+    {
+        self.put_bytes(word);
+        self.put_field(number);
+        self.put_field(b"at".as_slice());
+        self.put_field(place);
+        self.put_byte(LINE_FEED);
+    }
 }
 
-// A blank and a word.
-pub fn put_word_field(out: &mut [u8], at: usize, word: &[u8]) -> usize
-    ensures { out_of out.new result ≡ put_field (out_of out.old at) word.now }
-{
-    let next = put_byte(out, at, BLANK);
-    put_bytes(out, next, word)
+// What stands in a field: a word, or a number in decimal.
+pub trait Text {
+    ghost text: { Self → List ℕ };
+
+    fn put(self, out: &mut Writer<'_>)
+        ensures { Leaves out.old out.new (put (out_in out.old) (text self)) };
 }
 
-// A blank and a number that is not negative.
-pub fn put_digits_field(out: &mut [u8], at: usize, x: u64) -> usize
-    ensures { out_of out.new result ≡ put_field (out_of out.old at) (digits x) }
-{
-    let next = put_byte(out, at, BLANK);
-    put_digits(out, next, x)
+impl Text for u64 {
+    ghost text = { digits };
+
+    fn put(self, out: &mut Writer<'_>) {
+        out.put_digits(self);
+    }
 }
 
-// A blank and a number of either sign.
-pub fn put_decimal_field(out: &mut [u8], at: usize, z: i64) -> usize
-    ensures { out_of out.new result ≡ put_field (out_of out.old at) (decimal z) }
-{
-    let next = put_byte(out, at, BLANK);
-    put_decimal(out, next, z)
+impl Text for i64 {
+    ghost text = { decimal };
+
+    fn put(self, out: &mut Writer<'_>) {
+        out.put_decimal(self);
+    }
 }
 
-// A word, a number, "at" and a place.
-pub fn put_outcome(out: &mut [u8], at: usize, word: &[u8], number: u64, place: u64) -> usize
-    ensures { out_of out.new result ≡ put_line (out_of out.old at) word.now (outcome_fields number place) }
-{
-    let a = put_bytes(out, at, word);
-    let b = put_digits_field(out, a, number);
-    let c = put_word_field(out, b, b"at");
-    let d = put_digits_field(out, c, place);
-    put_byte(out, d, LINE_FEED)
+impl Text for &[u8] {
+    ghost text = { λ word. word.now };
+
+    fn put(self, out: &mut Writer<'_>) {
+        out.put_bytes(self);
+    }
 }

@@ -104,9 +104,9 @@ accepted_is e f size h = go (eqb e.l f.l) (eqb e.n f.n) (early_of e f) refl refl
     go : (p q r : Bool) → eqb e.l f.l ≡ p → eqb e.n f.n ≡ q → early_of e f ≡ r
         → cond (p && q) (cond r Early (Accepted (nat_abs (size_of e f)))) Rates ≡ Accepted size → Passes e f × (size ≡ nat_abs (size_of e f))
     go true true false x y z w = (record { same_l = eqb-true _ _ x; same_n = eqb-true _ _ y; in_time = early_not e f z }, cc)
-    go true true true x y z w = let o : ◌≡◌ {A = ℕ} 0 1 = cc in absurd (omega arith)
-    go true false r x y z w = let o : ◌≡◌ {A = ℕ} 0 1 = cc in absurd (omega arith)
-    go false q r x y z w = let o : ◌≡◌ {A = ℕ} 0 1 = cc in absurd (omega arith)
+    go true true true x y z w = absurd (cc)
+    go true false r x y z w = absurd (cc)
+    go false q r x y z w = absurd (cc)
 
 -- a number that is not below 0 is its own size
 natural : (z : ℤ) → pos 0 ≤ℤ z → pos (nat_abs z) ≡ z

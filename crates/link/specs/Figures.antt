@@ -1,11 +1,9 @@
 -- "Figures to hold the work to": those on envelopes and links. What the rules give, and what document 01 says, or item 3 of document 02.
-use Rattle.std.specs.Prelude.{List, [], ◌∷◌, ℕ, pos, neg_ℤ}
+use Rattle.std.specs.Prelude.{List, [], ◌∷◌, ℕ, pos, neg_ℤ, Ok, Err}
 use Rattle.envelope.specs.declared.Envelope.{Envelope}
-use Rattle.envelope.specs.declared.Made.{Made}
-use Rattle.envelope.specs.declared.Made.TheVariants.{Good, Empty, FullRate, Outgrown}
 use Rattle.envelope.specs.Envelope.{numbers, normal_of, not_of, on_of}
 use Rattle.envelope.specs.Word.{word_of}
-use Rattle.envelope.specs.Made.{number_of, declared_of, negated_of}
+use Rattle.envelope.specs.Made.{Made, number_of, declared_of, negated_of}
 use Rattle.link.specs.declared.Verdict.{Verdict}
 use Rattle.link.specs.declared.Verdict.TheVariants.{Accepted, Early}
 use Rattle.link.specs.Link.{verdict_of}
@@ -17,10 +15,8 @@ pub data Figure : Type 0 where
 
 -- what a rule makes: "taken as" an envelope, or "refused" with a number
 abbrev pub made : Made → Figure
-made (Good x) = envelope x.envelope
-made Empty = refused (number_of Empty)
-made FullRate = refused (number_of FullRate)
-made Outgrown = refused (number_of Outgrown)
+made (Ok x) = envelope x.envelope
+made (Err flaw) = refused (number_of flaw)
 
 -- (11010)
 abbrev pub w11010 : Envelope

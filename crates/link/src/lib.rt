@@ -8,15 +8,16 @@ ghost use Rattle.link.specs.Link.{size_of, early_of, Passes, verdict_of, verdict
 use envelope::Envelope;
 
 // An accepted link carries its size in words, the others carry none.
-#[derive(Clone, Copy)]
+// An enum of its own, and no Result: document 01 names three verdicts, each with a number and a word.
+#[derive(Clone, Copy, Debug, PartialEq, Eq)]
 pub enum Verdict {
     Accepted(u64),
     Rates,
     Early,
 }
 
-// A link's ends, its state (0 open, 1 closed) and its verdict.
-#[derive(Clone, Copy)]
+// A link's ends, its state (0 open, 1 closed) and its verdict. A state is a byte of the sheet and a number of the result slices, so it stays a number.
+#[derive(Clone, Copy, Debug, PartialEq, Eq)]
 pub struct Row {
     pub producer: usize,
     pub consumer: usize,
@@ -25,6 +26,7 @@ pub struct Row {
 }
 
 // The second test: the producer may write a word after the consumer must have read it.
+#[tactic(auto, using(crate::proofs::Held::early_is))]
 fn is_early(e: Envelope, f: Envelope) -> bool
     requires { Taken e × Taken f }
     ensures { result ≡ early_of e f }
@@ -43,14 +45,12 @@ fn size(e: Envelope, f: Envelope) -> u64
 }
 
 // The verdict on a link from a producer in e to a consumer in f.
+#[tactic(auto, unfolding(crate::specs::Link::verdict_of))]
 pub fn judge(e: Envelope, f: Envelope) -> Verdict
     requires { Taken e × Taken f }
     ensures { result ≡ verdict_of e f }
 {
-    if e.l != f.l {
-        return Verdict::Rates;
-    }
-    if e.n != f.n {
+    if e.l != f.l || e.n != f.n {
         return Verdict::Rates;
     }
     if is_early(e, f) {
@@ -60,6 +60,7 @@ pub fn judge(e: Envelope, f: Envelope) -> Verdict
 }
 
 impl Verdict {
+    // By a match: an enum of which a variant carries a number has no `as`.
     pub fn number(self) -> u64
         ensures { result ≡ verdict_number self }
     {
@@ -75,8 +76,7 @@ impl Verdict {
     {
         match self {
             Verdict::Accepted(size) => size,
-            Verdict::Rates => 0,
-            Verdict::Early => 0,
+            Verdict::Rates | Verdict::Early => 0,
         }
     }
 }
@@ -85,13 +85,7 @@ impl Verdict {
 pub fn state_of(producer: u8, consumer: u8) -> u8
     ensures { result ≡ state_of producer consumer }
 {
-    if producer == 1 {
-        return 1;
-    }
-    if consumer == 1 {
-        return 1;
-    }
-    0
+    if producer == 1 || consumer == 1 { 1 } else { 0 }
 }
 
 impl Row {
@@ -102,7 +96,6 @@ impl Row {
         if self.state == 1 {
             return 0;
         }
-        let verdict = self.verdict;
-        verdict.size()
+        self.verdict.size()
     }
 }

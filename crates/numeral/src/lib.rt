@@ -1,113 +1,56 @@
 // Numbers read from text: figures, zeros before them allowed, and a minus sign before a negative one.
 #![tactic(auto)]
 
-ghost use Rattle.std.specs.Prelude.{◌≡◌};
-ghost use Rattle.numeral.specs.Number.{figure_then, natural_of, positive, negative, whole_of};
+ghost use Rattle.std.specs.Prelude.{◌≡◌, MatchResult};
+ghost use Rattle.std.specs.Str.{IsUtf8};
+ghost use Rattle.std.specs.Char.{is_ascii_digit};
+ghost use Rattle.std.specs.List.{list_all};
+ghost use Rattle.numeral.specs.Number.{HasFigures, unsigned, natural_of, whole_of};
+ghost use Rattle.numeral.specs.declared.NumberError.TheVariants.{NotANumber};
 
-// The number, that the text is none, or that it doesn't fit 64 bits.
-#[derive(Clone, Copy)]
-pub enum Number {
-    Is(u64),
+use std::str;
+
+// Why a text is no number: it is none, or it doesn't fit 64 bits.
+#[derive(Clone, Copy, Debug, PartialEq, Eq)]
+pub enum NumberError {
     NotANumber,
     TooLarge,
 }
 
-// The same for a number of either sign.
-#[derive(Clone, Copy)]
-pub enum SignedNumber {
-    Is(i64),
-    NotANumber,
-    TooLarge,
-}
-
-const FIRST_FIGURE: u8 = 48;
-
-const LAST_FIGURE: u8 = 57;
-
-// The number with one byte more.
-fn figure_then(number: Number, b: u8) -> Number
-    ensures { result ≡ figure_then number b }
+fn are_figures(text: &[u8]) -> bool
+    ensures { result ≡ list_all is_ascii_digit text.now }
 {
-    if b < FIRST_FIGURE {
-        return Number::NotANumber;
-    }
-    if LAST_FIGURE < b {
-        return Number::NotANumber;
-    }
-    let figure = (b - FIRST_FIGURE) as u64;
-    match number {
-        Number::NotANumber => Number::NotANumber,
-        Number::TooLarge => Number::TooLarge,
-        Number::Is(v) => {
-            if (u64::MAX - figure) / 10 < v {
-                Number::TooLarge
-            } else {
-                Number::Is(v * 10 + figure)
-            }
-        }
-    }
+    text.iter().all(|b| b.is_ascii_digit())
 }
 
-pub fn natural(text: &[u8]) -> Number
+// A text as std reads it, where this part of it is figures: by itself `parse` takes a plus sign too.
+#[tactic(auto, using(crate::proofs::Figures::figures_test))]
+fn with_figures<'a>(text: &'a [u8], part: &[u8]) -> Result<&'a str, NumberError>
+    ensures { MatchResult result (λ s. (s.now ≡ text.now) × HasFigures part.now) (λ e. (e ≡ NotANumber) × ¬ (IsUtf8 text.now × HasFigures part.now)) }
+{
+    if part.is_empty() || !are_figures(part) {
+        return Err(NumberError::NotANumber);
+    }
+    str::from_utf8(text).map_err(|_| NumberError::NotANumber)
+}
+
+pub fn natural(text: &[u8]) -> Result<u64, NumberError>
     ensures { result ≡ natural_of text.now }
 {
-    if text.len() == 0 {
-        return Number::NotANumber;
-    }
-    let mut number = Number::Is(0);
-    let mut i = 0;
-    while i < text.len() {
-        number = figure_then(number, text[i]);
-        i += 1;
-    }
-    number
+    let figures = with_figures(text, text)?;
+    figures.parse::<u64>().map_err(|_| NumberError::TooLarge)
 }
 
-// The number with no sign before it.
-fn plus(number: Number) -> SignedNumber
-    ensures { result ≡ positive number }
+// A text without the minus sign before it.
+fn unsigned(text: &[u8]) -> &[u8]
+    ensures { result.now ≡ unsigned text.now }
 {
-    match number {
-        Number::NotANumber => SignedNumber::NotANumber,
-        Number::TooLarge => SignedNumber::TooLarge,
-        Number::Is(v) => {
-            if v <= 9223372036854775807 {
-                SignedNumber::Is(v as i64)
-            } else {
-                SignedNumber::TooLarge
-            }
-        }
-    }
+    text.strip_prefix(&[line::MINUS]).unwrap_or(text)
 }
 
-// The number with a minus sign before it: one step nearer to 0 first, since the least number has no opposite.
-fn minus(number: Number) -> SignedNumber
-    ensures { result ≡ negative number }
-{
-    match number {
-        Number::NotANumber => SignedNumber::NotANumber,
-        Number::TooLarge => SignedNumber::TooLarge,
-        Number::Is(v) => {
-            if v == 0 {
-                return SignedNumber::Is(0);
-            }
-            if v <= 9223372036854775808 {
-                SignedNumber::Is(-1 - (v - 1) as i64)
-            } else {
-                SignedNumber::TooLarge
-            }
-        }
-    }
-}
-
-pub fn whole_number(text: &[u8]) -> SignedNumber
+pub fn whole_number(text: &[u8]) -> Result<i64, NumberError>
     ensures { result ≡ whole_of text.now }
 {
-    if text.len() == 0 {
-        return SignedNumber::NotANumber;
-    }
-    if text[0] == line::MINUS {
-        return minus(natural(&text[1..]));
-    }
-    plus(natural(text))
+    let number = with_figures(text, unsigned(text))?;
+    number.parse::<i64>().map_err(|_| NumberError::TooLarge)
 }

@@ -9,19 +9,22 @@ use mathlib.Core.Bool.{Bool, true, false, cond, false≢true}
 use mathlib.Core.List.{List, [], ◌∷◌}
 use lib.ListN.{length, get_or, take}
 use lib.Dec.{ltb, leb}
-use borrow.Author.Tests.{ltb-true, ltb-false, leb-false, le-ltb}
-use Rattle.reply.specs.Numbers.{no_envelope, long_pattern, not_a_bit, outside}
+use borrow.Author.Tests.{ltb-true, ltb-false, leb-false, le-ltb, le-leb}
+use Rattle.std.specs.Prelude.{Result, Ok}
+use Rattle.std.proofs.lemmas.List.Sums.{prefix_len_stops}
+use Rattle.reply.specs.declared.Cause.TheVariants.{NoEnvelope, LongPattern, NotABit, Outside}
+use Rattle.reply.specs.declared.Refusal.{Refusal}
+use Rattle.reply.specs.Refusal.{refused_for}
 use Rattle.envelope.specs.declared.Envelope.{Envelope}
 use Rattle.envelope.specs.Envelope.{Taken}
 use Rattle.envelope.specs.Inner.Tests.{is_taken}
 use Rattle.envelope.proofs.Tests.{is_true, to_t, is_taken_lem, taken_is}
 use Rattle.pattern.specs.declared.Answer.{Answer}
-use Rattle.pattern.specs.declared.Answer.TheVariants.{Refused}
 use Rattle.pattern.specs.Step.{one_may, zero_may}
 use Rattle.judging.specs.Bytes.{longest, plain}
 use Rattle.pattern.specs.Pattern.{after, may, Inside, passed}
 use Rattle.pattern.specs.Beginning.{Begins}
-use Rattle.pattern.specs.Answer.{answer_number, steps_of, check_answer}
+use Rattle.pattern.specs.Answer.{steps_of, check_answer}
 use Rattle.pattern.proofs.Binary.{Bits}
 use Rattle.pattern.proofs.Beginnings.{begins_in, in_begins}
 
@@ -64,18 +67,11 @@ module _ (z o : ℕ → ℕ → Bool) where
 
 -- the first byte that is neither 0 nor 1
 pub plain_stops : (p : List ℕ) → plain p < length p → 1 < get_or p (plain p) 0
-plain_stops [] h = absurd (not-suc-le-zero h)
-plain_stops (b ∷ p) h = go (leb b 1) refl (plain_stops p)
-  where
-    go : (t : Bool) → leb b 1 ≡ t → (plain p < length p → 1 < get_or p (plain p) 0) → 1 < get_or (b ∷ p) (plain (b ∷ p)) 0
-    go true q ih = rw q (ih (le_of_suc-le-suc (rw q at h)))
-    go false q ih = rw q (leb-false b 1 q)
+plain_stops p h = leb-false (get_or p (plain p) 0) 1 (prefix_len_stops (λ (b : ℕ). leb b 1) p 0 h)
 
 bits_plain : (p : List ℕ) → Bits p → plain p ≡ length p
 bits_plain [] h = refl
-bits_plain (zero ∷ p) h = ap suc (bits_plain p h.1)
-bits_plain (suc zero ∷ p) h = ap suc (bits_plain p h.1)
-bits_plain (suc (suc b) ∷ p) h = absurd (let s = h.0 in omega arith)
+bits_plain (b ∷ p) h = rw (le-leb b 1 h.0, bits_plain p h.1) (omega arith)
 
 module _ (e : Envelope) where
   abbrev z : ℕ → ℕ → Bool
@@ -90,7 +86,7 @@ module _ (e : Envelope) where
     pub short : length p ≤ longest
     pub inside : Inside z o 0 0 p
 
-  pub inside_check : (p : List ℕ) → Passing p → check_answer e p ≡ Answer.Inside
+  pub inside_check : (p : List ℕ) → Passing p → check_answer e p ≡ Ok Answer.Inside
   unfolding check_answer
   inside_check p h =
       let plain_all : plain p ≡ length p = bits_plain p (inside_bits z o p 0 0 h.inside) in
@@ -98,18 +94,18 @@ module _ (e : Envelope) where
       rw (taken_is e h.taken, le-ltb longest (length p) h.short, le-ltb (plain p) (length p) (rw plain_all (le_refl (length p))), le-ltb (steps_of e p) (length p) (rw all (le_refl (length p))))
 
   -- each answer, with what it says
-  pub data Checked (p : List ℕ) : Answer → Type 0 where
-    is_inside : Passing p → Checked p Answer.Inside
-    no_taken_envelope : (Taken e → ⊥) → Checked p (Refused no_envelope 0)
-    too_long : Taken e → longest < length p → Checked p (Refused long_pattern 0)
-    no_bit : Taken e → length p ≤ longest → plain p < length p → Checked p (Refused not_a_bit (plain p))
-    forbidden : Taken e → length p ≤ longest → length p ≤ plain p → steps_of e p < length p → Checked p (Refused outside (steps_of e p))
+  pub data Checked (p : List ℕ) : Result Answer Refusal → Type 0 where
+    is_inside : Passing p → Checked p (Ok Answer.Inside)
+    no_taken_envelope : (Taken e → ⊥) → Checked p (refused_for NoEnvelope 0)
+    too_long : Taken e → longest < length p → Checked p (refused_for LongPattern 0)
+    no_bit : Taken e → length p ≤ longest → plain p < length p → Checked p (refused_for NotABit (plain p))
+    forbidden : Taken e → length p ≤ longest → length p ≤ plain p → steps_of e p < length p → Checked p (refused_for Outside (steps_of e p))
 
   pub checked : (p : List ℕ) → Checked p (check_answer e p)
   unfolding check_answer
   checked p = go (is_taken e) (ltb longest (length p)) (ltb (plain p) (length p)) (ltb (steps_of e p) (length p)) refl refl refl refl
     where
-      go : (a b c d : Bool) → is_taken e ≡ a → ltb longest (length p) ≡ b → ltb (plain p) (length p) ≡ c → ltb (steps_of e p) (length p) ≡ d → Checked p (cond a (cond b (Refused long_pattern 0) (cond c (Refused not_a_bit (plain p)) (cond d (Refused outside (steps_of e p)) Answer.Inside))) (Refused no_envelope 0))
+      go : (a b c d : Bool) → is_taken e ≡ a → ltb longest (length p) ≡ b → ltb (plain p) (length p) ≡ c → ltb (steps_of e p) (length p) ≡ d → Checked p (cond a (cond b (refused_for LongPattern 0) (cond c (refused_for NotABit (plain p)) (cond d (refused_for Outside (steps_of e p)) (Ok Answer.Inside)))) (refused_for NoEnvelope 0))
       go false b c d ea eb ec ed = no_taken_envelope (λ t. false≢true (sym ea ∙ taken_is e t))
       go true true c d ea eb ec ed = too_long (is_taken_lem e ea) (ltb-true longest (length p) eb)
       go true false true d ea eb ec ed = no_bit (is_taken_lem e ea) (ltb-false longest (length p) eb) (ltb-true (plain p) (length p) ec)
@@ -117,17 +113,17 @@ module _ (e : Envelope) where
       go true false false false ea eb ec ed =
           is_inside (record { taken = is_taken_lem e ea; short = ltb-false longest (length p) eb; inside = passed_inside z o p 0 0 (ltb-false (steps_of e p) (length p) ed) })
 
-  pub check_inside : (p : List ℕ) → check_answer e p ≡ Answer.Inside → Passing p
+  pub check_inside : (p : List ℕ) → check_answer e p ≡ Ok Answer.Inside → Passing p
   check_inside p h = go (check_answer e p) (checked p) h
     where
-      go : (a : Answer) → Checked p a → a ≡ Answer.Inside → Passing p
+      go : (a : Result Answer Refusal) → Checked p a → a ≡ Ok Answer.Inside → Passing p
       go _ (is_inside v) q = v
-      go _ (no_taken_envelope f) q = absurd (let w = ap answer_number q in omega arith)
-      go _ (too_long t k) q = absurd (let w = ap answer_number q in omega arith)
-      go _ (no_bit t k l) q = absurd (let w = ap answer_number q in omega arith)
-      go _ (forbidden t k b l) q = absurd (let w = ap answer_number q in omega arith)
+      go _ (no_taken_envelope f) q = absurd (cc)
+      go _ (too_long t k) q = absurd (cc)
+      go _ (no_bit t k l) q = absurd (cc)
+      go _ (forbidden t k b l) q = absurd (cc)
 
-  pub inside_is : Taken e → (p : List ℕ) → (check_answer e p ≡ Answer.Inside) ↔ ((length p ≤ longest) × Begins e p)
+  pub inside_is : Taken e → (p : List ℕ) → (check_answer e p ≡ Ok Answer.Inside) ↔ ((length p ≤ longest) × Begins e p)
   inside_is t p = (
     λ h. (let v = check_inside p h in (v.short, in_begins e t p v.inside)),
     λ h. inside_check p (record { taken = t; short = h.0; inside = begins_in e p h.1 }),

@@ -8,12 +8,17 @@ use mathlib.Core.Path.{◌≡◌, refl, sym, ap, ◌∙◌}
 use mathlib.Core.Bool.{Bool, true, false, cond}
 use mathlib.Core.List.{List, [], ◌∷◌, ◌++◌, append-nil}
 use lib.IntN.{ℤ, pos}
-use lib.ListN.{length, get_or, take, set}
-use lib.Seq.{take-suc, take-suc-set, take_all, length-take-le, append_snoc}
+use lib.ListN.{length, take, drop, set, length-set, length-drop, drop_of_length-le}
+use borrow.Rule.Slice.PartMut.{put_mid}
+use lib.Seq.{take-suc-set, take_all, append_snoc}
+use lib.Dec.{leb}
+use borrow.Author.Tests.{leb-true}
+use Rattle.std.specs.Prelude.{Option, Some, None}
 use Rattle.envelope.specs.declared.Envelope.{Envelope}
 use Rattle.pattern.specs.declared.Lift.{Lift}
+use Rattle.judging.specs.Bytes.{plain}
 use Rattle.judging.specs.Inner.Scan.{one_at, zero_at, offset_after}
-use Rattle.pattern.specs.Inner.Lifts.{least_at, filled, reached, lifted, no_lift, last_lift, lift_of}
+use Rattle.pattern.specs.Inner.Lifts.{least_at, filled, reached, lifted, last_lift, lift_of}
 use Rattle.pattern.proofs.Offsets.{on_injective}
 
 -- ---- from the end: one bit less
@@ -21,50 +26,47 @@ reached_snoc : (e : Envelope) (q : List ℕ) (d : ℤ) (b : ℕ) → reached e d
 reached_snoc e [] d b = refl
 reached_snoc e (c ∷ q) d b = reached_snoc e q (offset_after e d c) b
 
-lift_snoc : (e : Envelope) (q : List ℕ) (i : ℕ) (d : ℤ) (m : Lift) (b : ℕ) → last_lift e i d m (q ++ (b ∷ [])) ≡ lifted e (i + length q) (reached e d q) (last_lift e i d m q) b
+lift_snoc : (e : Envelope) (q : List ℕ) (i : ℕ) (d : ℤ) (m : Option Lift) (b : ℕ) → last_lift e i d m (q ++ (b ∷ [])) ≡ lifted e (i + length q) (reached e d q) (last_lift e i d m q) b
 lift_snoc e [] i d m b = rw add-zero
 lift_snoc e (c ∷ q) i d m b = rw (add-suc, ← suc-add) (lift_snoc e q (suc i) (offset_after e d c) (lifted e i d m c) b)
 
-module _ (e : Envelope) (p : List ℕ) (i : ℕ) (h : i < length p) where
-  reached_before : reached e (pos 0) (take (suc i) p) ≡ offset_after e (reached e (pos 0) (take i p)) (get_or p i 0)
-  reached_before = rw (take-suc p i 0 h) (reached_snoc e (take i p) (pos 0) (get_or p i 0))
+pub bits_snoc : (q : List ℕ) (b : ℕ) → length (q ++ (b ∷ [])) ≤ plain (q ++ (b ∷ [])) → (length q ≤ plain q) × (b ≤ 1)
+bits_snoc [] b h = (omega arith, go (leb b 1) refl)
+  where
+    go : (t : Bool) → leb b 1 ≡ t → b ≤ 1
+    go true k = leb-true b 1 k
+    go false k = let f = rw k at h in absurd (omega arith)
+bits_snoc (c ∷ q) b h = go (leb c 1) refl (bits_snoc q b)
+  where
+    go : (t : Bool) → leb c 1 ≡ t → (length (q ++ (b ∷ [])) ≤ plain (q ++ (b ∷ [])) → (length q ≤ plain q) × (b ≤ 1)) → (length (c ∷ q) ≤ plain (c ∷ q)) × (b ≤ 1)
+    go true k ih =
+        let f = rw k at h in
+        let r = ih (omega arith) in
+        (rw k (omega (arith, r.0)), r.1)
+    go false k ih = let f = rw k at h in absurd (omega arith)
 
-  lift_before : lift_of e (take (suc i) p) ≡ lifted e i (reached e (pos 0) (take i p)) (lift_of e (take i p)) (get_or p i 0)
-  lift_before =
-      let l : 0 + length (take i p) ≡ i = zero-add (length (take i p)) ∙ length-take-le i p (omega arith) in
-      rw (take-suc p i 0 h)
-      (lift_snoc e (take i p) 0 (pos 0) no_lift (get_or p i 0)
-      ∙ ap (λ (k : ℕ). lifted e k (reached e (pos 0) (take i p)) (lift_of e (take i p)) (get_or p i 0)) l)
+-- one bit back, from the bit b behind q, where the machine has the offsets d and then r
+module _ (e : Envelope) (q : List ℕ) (b : ℕ) (d r : ℤ) (at_b : d ≡ reached e (pos 0) (q ++ (b ∷ []))) (back : offset_after e r b ≡ d) where
+  pub offset_back : r ≡ reached e (pos 0) q
+  offset_back = on_injective e r (reached e (pos 0) q) b (back ∙ at_b ∙ reached_snoc e q (pos 0) b)
 
--- one place back from i, where the machine has the offsets d and then r
-module _ (e : Envelope) (p : List ℕ) (i : ℕ) (there : 0 < i) (h : i ≤ length p) (d r : ℤ) (at_i : d ≡ reached e (pos 0) (take i p)) (back : offset_after e r (get_or p (i - 1) 0) ≡ d) where
-  i_is : i ≡ suc (i - 1)
-  i_is = omega arith
-
-  pub offset_back : r ≡ reached e (pos 0) (take (i - 1) p)
-  offset_back =
-      on_injective e r (reached e (pos 0) (take (i - 1) p)) (get_or p (i - 1) 0)
-      (back ∙ at_i ∙ ap (λ (k : ℕ). reached e (pos 0) (take k p)) i_is ∙ reached_before e p (i - 1) (omega arith))
-
-  lift_back : lift_of e (take i p) ≡ lifted e (i - 1) r (lift_of e (take (i - 1) p)) (get_or p (i - 1) 0)
+  lift_back : lift_of e (q ++ (b ∷ [])) ≡ lifted e (length q) r (lift_of e q) b
   lift_back =
-      ap (λ (k : ℕ). lift_of e (take k p)) i_is
-      ∙ lift_before e p (i - 1) (omega arith)
-      ∙ ap (λ (z : ℤ). lifted e (i - 1) z (lift_of e (take (i - 1) p)) (get_or p (i - 1) 0)) (sym offset_back)
+      lift_snoc e q 0 (pos 0) None b
+      ∙ ap (λ (k : ℕ). lifted e k (reached e (pos 0) q) (lift_of e q) b) (zero-add (length q))
+      ∙ ap (λ (z : ℤ). lifted e (length q) z (lift_of e q) b) (sym offset_back)
 
-  -- the 0 before place i could be a 1
-  pub lift_found : get_or p (i - 1) 0 ≡ 0 → one_at e r ≡ true → lift_of e (take i p) ≡ record { place = i; offset = r }
-  lift_found q k =
-      lift_back
-      ∙ (rw (q, k) (ap (λ (x : ℕ). record { place = x; offset = r }) (sym i_is)))
+  -- it is a 0 that could be a 1
+  pub lift_found : b ≡ 0 → one_at e r ≡ true → lift_of e (q ++ (b ∷ [])) ≡ Some (record { place = length q; offset = r })
+  lift_found k h = lift_back ∙ (rw (k, h))
 
   -- it could not, or it is a 1
-  pub lift_stays : (get_or p (i - 1) 0 ≡ 0 → one_at e r ≡ false) → lift_of e (take i p) ≡ lift_of e (take (i - 1) p)
-  lift_stays f = lift_back ∙ go (get_or p (i - 1) 0) refl
+  pub lift_stays : (b ≡ 0 → one_at e r ≡ false) → lift_of e (q ++ (b ∷ [])) ≡ lift_of e q
+  lift_stays f = lift_back ∙ go b refl
     where
-      go : (b : ℕ) → get_or p (i - 1) 0 ≡ b → lifted e (i - 1) r (lift_of e (take (i - 1) p)) b ≡ lift_of e (take (i - 1) p)
-      go zero q = rw (f q)
-      go (suc b) q = refl
+      go : (c : ℕ) → b ≡ c → lifted e (length q) r (lift_of e q) c ≡ lift_of e q
+      go zero k = rw (f k)
+      go (suc c) k = refl
 
 pub least_bit : (e : Envelope) (d : ℤ) → least_at e d ≤ 1
 least_bit e d = go (zero_at e d)
@@ -90,3 +92,15 @@ fill_end e p n i d q h =
     let none : n - i ≡ 0 = omega arith in
     let full : length p ≤ i = omega arith in
     rw none (sym (append-nil (take i p) ∙ take_all i p full))
+
+-- the bit at t becomes a 1: what is left behind it, and what stands where that becomes ys
+module _ (p : List ℕ) (t : ℕ) where
+  pub left_behind : length (take (length (set p t 1) - (t + 1)) (drop (t + 1) (set p t 1))) ≡ length p - suc t
+  left_behind =
+      let all : length (drop (t + 1) (set p t 1)) ≤ length (set p t 1) - (t + 1) = omega (arith, length-drop (t + 1) (set p t 1)) in
+      rw (take_all (length (set p t 1) - (t + 1)) (drop (t + 1) (set p t 1)) all) (omega (arith, length-drop (t + 1) (set p t 1), length-set p t 1))
+
+  pub raised : (ys : List ℕ) → t < length p → put_mid (t + 1) (length (set p t 1) - (t + 1)) (set p t 1) ys ≡ take t p ++ (1 ∷ ys)
+  raised ys h =
+      let past : length (drop (t + 1) (set p t 1)) ≤ length (set p t 1) - (t + 1) = omega (arith, length-drop (t + 1) (set p t 1)) in
+      rw (drop_of_length-le (drop (t + 1) (set p t 1)) past, append-nil, add-one, take-suc-set p t 1 h) (append_snoc (take t p) 1 ys)

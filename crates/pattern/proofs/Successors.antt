@@ -10,6 +10,8 @@ use mathlib.Core.Option.{Option, none, some}
 use lib.ListN.{length}
 use lib.Dec.{ltb}
 use borrow.Author.Tests.{ltb-true, ltb-false}
+use Rattle.std.specs.Prelude.{Result, Ok}
+use Rattle.reply.specs.declared.Refusal.{Refusal}
 use Rattle.envelope.specs.declared.Envelope.{Envelope}
 use Rattle.pattern.specs.declared.Answer.{Answer}
 use Rattle.pattern.specs.declared.Answer.TheVariants.{Done, Last}
@@ -41,7 +43,7 @@ module _ (e : Envelope) where
   unfolding next_answer
   next_passing p h = go (check_answer e p) (checked e p) h
     where
-      go : (a : Answer) → Checked e p a → answer_number (if_inside a (done_or_last (next_of e p))) ≡ 0 → Passing e p
+      go : (a : Result Answer Refusal) → Checked e p a → answer_number (if_inside a (done_or_last (next_of e p))) ≡ 0 → Passing e p
       go _ (is_inside v) q = v
       go _ (no_taken_envelope f) q = absurd (omega arith)
       go _ (too_long t k) q = absurd (omega arith)
@@ -79,26 +81,26 @@ module _ (e : Envelope) where
           let l : Less p r = number_less p r (sym er) (inside_bits z o p 0 0 v.inside) (inside_bits z o r 0 0 in_r) (ltb-true (number p) (number r) q) in
           absurd (subst (λ (n : Option (List ℕ)). From n r) h (next_least z o p r 0 0 er v.inside in_r l))
 
-  pub done_is : (p : List ℕ) → next_answer e p ≡ Done → Successor e p (next_bytes e p)
+  pub done_is : (p : List ℕ) → next_answer e p ≡ Ok Done → Successor e p (next_bytes e p)
   done_is p h =
       let v = next_passing p (ap answer_number h) in
       go v (next_of e p) refl (sym (next_fine p v).0 ∙ h) (next_fine p v).1
     where
-      go : Passing e p → (n : Option (List ℕ)) → next_of e p ≡ n → done_or_last n ≡ Done → next_bytes e p ≡ written (done_or_last n) (or_else n p) p → Successor e p (next_bytes e p)
+      go : Passing e p → (n : Option (List ℕ)) → next_of e p ≡ n → done_or_last n ≡ Ok Done → next_bytes e p ≡ written (done_or_last n) (or_else n p) p → Successor e p (next_bytes e p)
       go v none q d b = let w : ◌≡◌ {A = ℕ} 0 1 = cc in absurd (omega arith)
       go v (some s) q d b = rw b (successor p v s q)
 
-  pub last_is : (p : List ℕ) → (next_answer e p ≡ Last) ↔ ((check_answer e p ≡ Answer.Inside) × Greatest e p)
+  pub last_is : (p : List ℕ) → (next_answer e p ≡ Ok Last) ↔ ((check_answer e p ≡ Ok Answer.Inside) × Greatest e p)
   last_is p = (
     λ h. (let v = next_passing p (ap answer_number h) in (inside_check e p v, to_none v (next_of e p) refl (sym (next_fine p v).0 ∙ h))),
     λ h. (let v = check_inside e p h.0 in (next_fine p v).0 ∙ of_none v h.1 (next_of e p) refl),
   )
     where
-      to_none : Passing e p → (n : Option (List ℕ)) → next_of e p ≡ n → done_or_last n ≡ Last → Greatest e p
+      to_none : Passing e p → (n : Option (List ℕ)) → next_of e p ≡ n → done_or_last n ≡ Ok Last → Greatest e p
       to_none v none q d = none_greater p v q
       to_none v (some s) q d = let w : ◌≡◌ {A = ℕ} 0 1 = cc in absurd (omega arith)
 
-      of_none : Passing e p → Greatest e p → (n : Option (List ℕ)) → next_of e p ≡ n → done_or_last n ≡ Last
+      of_none : Passing e p → Greatest e p → (n : Option (List ℕ)) → next_of e p ≡ n → done_or_last n ≡ Ok Last
       of_none v g none q = refl
       of_none v g (some s) q =
           let f = successor p v s q in

@@ -1,26 +1,25 @@
 // Patterns of an envelope: check one, write the first, go to the next.
 #![tactic(auto)]
 
-ghost use Rattle.std.specs.Prelude.{◌≡◌, ◌++◌, ◌-◌, ◌≤◌, ◌<◌, pos, length, take};
-ghost use Rattle.envelope.specs.Envelope.{numbers, Taken};
+ghost use Rattle.std.specs.Prelude.{◌≡◌, ◌-◌, ◌≤◌, ◌<◌, pos, length, IfSome};
+ghost use Rattle.envelope.specs.Envelope.{Taken};
 ghost use Rattle.judging.specs.Bytes.{longest, plain};
 ghost use Rattle.pattern.specs.Answer.{Checks, Firsts, Nexts};
 ghost use Rattle.judging.specs.Inner.Scan.{Near, offset_after};
 ghost use Rattle.pattern.specs.Inner.Lifts.{least_at, filled, reached, lift_of};
 
 use envelope::Envelope;
-use judging::Judged;
+use reply::Refusal;
 
-// What an entry point answers: a refusal has its number and its place.
-#[derive(Clone, Copy)]
+// What an entry point answers of a pattern that it does not refuse.
+#[derive(Clone, Copy, Debug, PartialEq, Eq)]
 pub enum Answer {
     Inside,
     Done,
     Last,
-    Refused(u8, usize),
 }
 
-// The last 0 that could be a 1: its place, plus one, and n*i - l*j there.
+// A 0 that could be a 1: its place, and n*i - l*j there.
 #[derive(Clone, Copy)]
 struct Lift {
     place: usize,
@@ -43,90 +42,66 @@ fn least_at(e: Envelope, d: i64) -> u8
     if judging::zero_at(e, d) { 0 } else { 1 }
 }
 
-// The lift, looked for from the end: a walk turns bits near it.
-fn last_lift(e: Envelope, pattern: &[u8], end: i64) -> Lift
+// The last 0 that could be a 1, looked for from the end: a walk turns bits near it.
+fn last_lift(e: Envelope, pattern: &[u8], end: i64) -> Option<Lift>
     requires taken { Taken e × (length pattern.now ≤ longest) × (length pattern.now ≤ plain pattern.now) }
     requires end_value { end ≡ reached e (pos 0) pattern.now }
-    ensures { result ≡ lift_of e pattern.now }
+    ensures lift { result ≡ lift_of e pattern.now }
+    ensures within { IfSome result (λ m. m.place < length pattern.now) }
 {
     let mut d = end;
-    let mut i = pattern.len();
-    while 0 < i {
-        let b = pattern[i - 1];
+    for (i, &b) in pattern.iter().enumerate().rev() {
         d = moved_back(e, d, b);
-        if b == 0 {
-            if judging::one_at(e, d) {
-                return Lift {
-                    place: i,
-                    offset: d,
-                };
-            }
+        if b == 0 && judging::one_at(e, d) {
+            return Some(Lift {
+                place: i,
+                offset: d,
+            });
         }
-        i -= 1;
     }
-    Lift {
-        place: 0,
-        offset: 0,
-    }
+    None
 }
 
-// Writes the smallest bits that may follow, from place `from` on, where n*i - l*j is `start`.
-fn fill(e: Envelope, pattern: &mut [u8], from: usize, start: i64)
-    requires { Taken e × (length pattern.old ≤ longest) × (from ≤ length pattern.old) × Near from start }
-    ensures { pattern.new ≡ take from pattern.old ++ filled e start (length pattern.old - from) }
+// Writes the smallest bits that may follow where n*i - l*j is `start`, to the end of a pattern.
+fn fill(e: Envelope, rest: &mut [u8], start: i64)
+    requires { Taken e × (length rest.old ≤ longest) × Near (longest - length rest.old) start }
+    ensures { rest.new ≡ filled e start (length rest.old) }
 {
     let mut d = start;
-    let mut i = from;
-    while i < pattern.len() {
+    for bit in rest.iter_mut() {
         let b = least_at(e, d);
-        pattern[i] = b;
+        *bit = b;
         d = judging::moved_on(e, d, b);
-        i += 1;
     }
 }
 
 // Inside, or 12 to 15.
-pub fn check(k: i64, K: i64, l: u64, n: u64, pattern: &[u8]) -> Answer
-    ensures { Checks (numbers k K l n) pattern.now result }
+pub fn check(e: Envelope, pattern: &[u8]) -> Result<Answer, Refusal>
+    ensures { Checks e pattern.now result }
 {
-    match judging::judge(Envelope { k, K, l, n }, pattern) {
-        Judged::Unsound(number, place) => Answer::Refused(number, place),
-        Judged::Sound(_) => Answer::Inside,
-    }
+    judging::judge(e, pattern)?;
+    Ok(Answer::Inside)
 }
 
 // Fills the slice with the first pattern, or answers 12 or 13.
-pub fn first(k: i64, K: i64, l: u64, n: u64, pattern: &mut [u8]) -> Answer
-    ensures { Firsts (numbers k K l n) pattern.old result pattern.new }
+pub fn first(e: Envelope, pattern: &mut [u8]) -> Result<Answer, Refusal>
+    ensures { Firsts e pattern.old result pattern.new }
 {
-    let e = Envelope { k, K, l, n };
-    if !e.is_taken() {
-        return Answer::Refused(reply::NO_ENVELOPE, 0);
-    }
-    if judging::LONGEST < pattern.len() {
-        return Answer::Refused(reply::LONG_PATTERN, 0);
-    }
-    fill(e, pattern, 0, 0);
-    Answer::Done
+    judging::admit(e, pattern)?;
+    fill(e, pattern, 0);
+    Ok(Answer::Done)
 }
 
 // Turns the pattern into its successor, answers that it is the last, or 12 to 15.
-pub fn next(k: i64, K: i64, l: u64, n: u64, pattern: &mut [u8]) -> Answer
-    ensures { Nexts (numbers k K l n) pattern.old result pattern.new }
+pub fn next(e: Envelope, pattern: &mut [u8]) -> Result<Answer, Refusal>
+    ensures { Nexts e pattern.old result pattern.new }
 {
-    let e = Envelope { k, K, l, n };
-    match judging::judge(e, pattern) {
-        Judged::Unsound(number, place) => Answer::Refused(number, place),
-        Judged::Sound(end) => {
-            let m = last_lift(e, pattern, end);
-            let place = m.place;
-            if place == 0 {
-                return Answer::Last;
-            }
-            pattern[place - 1] = 1;
-            let d = judging::moved_on(e, m.offset, 1);
-            fill(e, pattern, place, d);
-            Answer::Done
-        }
-    }
+    let end = judging::judge(e, pattern)?;
+    let Some(Lift { place, offset }) = last_lift(e, pattern, end) else {
+        return Ok(Answer::Last);
+    };
+    pattern[place] = 1;
+    let after = judging::moved_on(e, offset, 1);
+    fill(e, &mut pattern[place + 1..], after);
+    Ok(Answer::Done)
 }

@@ -1,15 +1,17 @@
 // Reads a design sheet once from left to right: words, clocks and links as sections of rows, each left in its table.
 #![tactic(auto)]
 
-ghost use Rattle.std.specs.Prelude.{◌≡◌, [], ◌+◌, ◌*◌, ◌≤◌, ◌<◌, length};
+ghost use Rattle.std.specs.Prelude.{◌≡◌, [], ◌≤◌, pos, replicate};
 ghost use Rattle.expression.specs.Inner.Nodes.{HoldsNodes, nodes_in};
+ghost use Rattle.field.specs.Field.{read_of};
 ghost use Rattle.sheet.specs.Sheet.{clocks_most, links_most};
 ghost use Rattle.sheet.specs.Reader.{rows_at, section_at, clock_at, link_at, read_sheet};
-ghost use Rattle.reading.specs.Inner.Sections.{WordRows, ClockRows, marked_of, marked_at, ends_of, reading_of, Tabled, LinkRows, ToEnd, FromClocks};
+ghost use Rattle.reading.specs.Inner.Sections.{WordRows, ClockRows, marked_at, ends_of, reading_of, Tabled, LinkRows, ToEnd, FromClocks};
 
 use envelope::Node;
-use expression::{PER_NODE, Value, entry, evaluate, store};
-use field::{Cursor, Field};
+use expression::{PER_NODE, evaluate, store};
+use field::{Cursor, Read};
+use reply::{Cause, Refusal};
 
 pub const BYTES_MOST: usize = 32_768;
 
@@ -23,145 +25,96 @@ pub const LINKS_MOST: usize = 256;
 pub const DEPTH_MOST: usize = 12;
 
 // The words section: how many words there are, and the cursor past them; their nodes are left in `table`.
-fn read_words(start: Cursor, s: &[u8], table: &mut [i32]) -> Field
-    requires { length table.old ≡ 256 }
+// A loop, as for clocks and links: nothing is known of a lent table after a closure stored in it, and a trait takes three structs and impls for four lines.
+fn read_words(start: Cursor, s: &[u8], table: &mut [i32; 256]) -> Read<usize>
     ensures { WordRows s.now start.at result table.new }
 {
-    let f = start.within(s, 2, 0, WORDS_MOST + 1, reply::BEYOND);
-    let Field::Got(n, d) = f else {
-        return f;
-    };
+    let (n, d) = start.within(s, 2, 0, WORDS_MOST + 1, Cause::Beyond)?;
     let mut c = d;
-    let mut i: usize = 0;
-    while i < n {
-        match word::word(c, s) {
-            Value::Refused(number, place) => {
-                return Field::Refused(number, place);
-            }
-            Value::Got(x, next) => {
-                store(x, table, i);
-                c = next;
-            }
-        }
-        i += 1;
+    for i in 0..n {
+        let (x, next) = word::word(c, s)?;
+        store(x, table, i);
+        c = next;
     }
-    Field::Got(n, c)
+    Ok((n, c))
 }
 
-// A clock's state and node, and the cursor past it; or a refusal's number and place.
+// A clock's state and node.
 #[derive(Clone, Copy)]
-pub enum Marked {
-    Got(u8, Node, Cursor),
-    Refused(u8, usize),
+pub struct Mark {
+    pub state: u8,
+    pub node: Node,
 }
 
-// A clock, after those whose nodes are in `clocks`.
-fn clock(start: Cursor, s: &[u8], words: &[i32], clocks: &[i32]) -> Marked
+// A clock, after those whose nodes are in `clocks`. Nodes stay slices that hold, here and below, since `evaluate` takes them so.
+#[tactic(auto, unfolding(crate::specs::Inner::Sections::marked_at))]
+fn clock(start: Cursor, s: &[u8], words: &[i32], clocks: &[i32]) -> Read<Mark>
     requires { HoldsNodes words.now × HoldsNodes clocks.now }
-    ensures { marked_of result ≡ marked_at s.now (nodes_in words.now) (nodes_in clocks.now) start.at }
+    ensures { read_of result ≡ marked_at s.now (nodes_in words.now) (nodes_in clocks.now) start.at }
 {
-    match start.within(s, 1, 0, 2, reply::UNKNOWN) {
-        Field::Refused(number, place) => Marked::Refused(number, place),
-        Field::Got(state, c) => match evaluate(c, s, words, clocks, DEPTH_MOST) {
-            Value::Refused(number, place) => Marked::Refused(number, place),
-            Value::Got(x, d) => Marked::Got(state as u8, x, d),
+    let (state, c) = start.within(s, 1, 0, 2, Cause::Unknown)?;
+    let (node, d) = evaluate(c, s, words, clocks, DEPTH_MOST)?;
+    Ok((
+        Mark {
+            state: state as u8,
+            node,
         },
-    }
+        d,
+    ))
 }
 
-// n clocks: the cursor past them; their nodes are left in `table`, their states in `states`.
-fn clock_rows(
-    start: Cursor,
-    s: &[u8],
-    words: &[i32],
-    n: usize,
-    table: &mut [i32],
-    states: &mut [u8],
-) -> Field
-    requires { (length table.old ≡ 512) × (length states.old ≡ 128) × HoldsNodes words.now × (n ≤ clocks_most) }
-    ensures { ClockRows (rows_at (clock_at s.now (nodes_in words.now)) n [] start.at) result table.new states.new }
+// n clocks: the cursor past them; their nodes and states are left in the tables.
+// A loop of its own: a clock also reads the table that it is stored in, so a function for rows of any kind would have to require this table's invariant.
+fn clock_rows(start: Cursor, s: &[u8], words: &[i32], n: usize, tables: &mut Tables) -> Read<usize>
+    requires { HoldsNodes words.now × (n ≤ clocks_most) }
+    ensures { ClockRows (rows_at (clock_at s.now (nodes_in words.now)) n [] start.at) result tables.new.nodes tables.new.states }
 {
     let mut c = start;
-    let mut i: usize = 0;
-    while i < n {
+    for i in 0..n {
         let end = PER_NODE * i;
-        match clock(c, s, words, &table[..end]) {
-            Marked::Refused(number, place) => {
-                return Field::Refused(number, place);
-            }
-            Marked::Got(state, x, next) => {
-                store(x, table, i);
-                states[i] = state;
-                c = next;
-            }
-        }
-        i += 1;
+        let (mark, next) = clock(c, s, words, &tables.nodes[..end])?;
+        store(mark.node, &mut tables.nodes, i);
+        tables.states[i] = mark.state;
+        c = next;
     }
-    Field::Got(n, c)
+    Ok((n, c))
 }
 
-// The clocks section: how many clocks there are, and the cursor past them; their nodes are left in `table`, their states in `states`.
-fn read_clocks(
-    start: Cursor,
-    s: &[u8],
-    words: &[i32],
-    table: &mut [i32],
-    states: &mut [u8],
-) -> Field
-    requires { (length table.old ≡ 512) × (length states.old ≡ 128) × HoldsNodes words.now }
-    ensures { ClockRows (section_at (clock_at s.now (nodes_in words.now)) clocks_most s.now start.at) result table.new states.new }
+// The clocks section: how many clocks there are, and the cursor past them; their nodes and states are left in the tables.
+#[tactic(auto, using(crate::proofs::Sections::ClockTable::section_refused, crate::proofs::Sections::ClockTable::section_left))]
+fn read_clocks(start: Cursor, s: &[u8], words: &[i32], tables: &mut Tables) -> Read<usize>
+    requires { HoldsNodes words.now }
+    ensures { ClockRows (section_at (clock_at s.now (nodes_in words.now)) clocks_most s.now start.at) result tables.new.nodes tables.new.states }
 {
-    match start.within(s, 2, 0, CLOCKS_MOST + 1, reply::BEYOND) {
-        Field::Refused(number, place) => Field::Refused(number, place),
-        Field::Got(n, c) => clock_rows(c, s, words, n, table, states),
-    }
-}
-
-// A link's ends and the cursor past it; or a refusal's number and place.
-#[derive(Clone, Copy)]
-enum Ends {
-    Got(usize, usize, Cursor),
-    Refused(u8, usize),
+    let (n, c) = start.within(s, 2, 0, CLOCKS_MOST + 1, Cause::Beyond)?;
+    clock_rows(c, s, words, n, tables)
 }
 
 // A link between two of n clocks.
-fn link_ends(start: Cursor, s: &[u8], n: usize) -> Ends
+#[tactic(auto, unfolding(sheet::specs::Reader::link_at))]
+fn link_ends(start: Cursor, s: &[u8], n: usize) -> Read<(usize, usize)>
     ensures { ends_of result ≡ link_at s.now n [] start.at }
 {
-    match start.within(s, 2, 0, n, reply::ABSENT) {
-        Field::Refused(number, place) => Ends::Refused(number, place),
-        Field::Got(i, c) => match c.within(s, 2, 0, n, reply::ABSENT) {
-            Field::Refused(number, place) => Ends::Refused(number, place),
-            Field::Got(j, d) => Ends::Got(i, j, d),
-        },
-    }
+    let (i, c) = start.within(s, 2, 0, n, Cause::Absent)?;
+    let (j, d) = c.within(s, 2, 0, n, Cause::Absent)?;
+    Ok(((i, j), d))
 }
 
 // The links section: how many links there are between n clocks, and the cursor past them; their ends are left in `ends`.
-fn read_links(start: Cursor, s: &[u8], n: usize, ends: &mut [u8]) -> Field
-    requires { (length ends.old ≡ 512) × (n ≤ clocks_most) }
+// A loop of its own: a link leaves two bytes and no node, so it shares the cursor's step alone with the others.
+fn read_links(start: Cursor, s: &[u8], n: usize, ends: &mut [u8; 512]) -> Read<usize>
+    requires { n ≤ clocks_most }
     ensures { LinkRows (section_at (link_at s.now n) links_most s.now start.at) result ends.new }
 {
-    let f = start.within(s, 2, 0, LINKS_MOST + 1, reply::BEYOND);
-    let Field::Got(many, d) = f else {
-        return f;
-    };
+    let (many, d) = start.within(s, 2, 0, LINKS_MOST + 1, Cause::Beyond)?;
     let mut c = d;
-    let mut i: usize = 0;
-    while i < many {
-        match link_ends(c, s, n) {
-            Ends::Refused(number, place) => {
-                return Field::Refused(number, place);
-            }
-            Ends::Got(p, q, next) => {
-                ends[2 * i] = p as u8;
-                ends[2 * i + 1] = q as u8;
-                c = next;
-            }
-        }
-        i += 1;
+    for i in 0..many {
+        let ((p, q), next) = link_ends(c, s, n)?;
+        ends[2 * i] = p as u8;
+        ends[2 * i + 1] = q as u8;
+        c = next;
     }
-    Field::Got(many, c)
+    Ok((many, c))
 }
 
 // What a sheet that was read holds: how many clocks and links, and where the clocks' rows begin.
@@ -172,66 +125,77 @@ pub struct Found {
     pub clockrows: usize,
 }
 
-#[derive(Clone, Copy)]
-pub enum Reading {
-    Got(Found),
-    Refused(u8, usize),
+// What reading leaves of a sheet: its clocks' nodes and states, and its links' ends. They are lent, and never copied.
+#[derive(Drop)]
+pub struct Tables {
+    pub nodes: [i32; 512],
+    pub states: [u8; 128],
+    pub ends: [u8; 512],
 }
 
-// The links between m clocks, and nothing after them: their ends are left in `ends`. The clocks' rows begin at `first`.
-fn read_to_end(first: usize, start: Cursor, s: &[u8], m: usize, ends: &mut [u8]) -> Reading
-    requires { (length ends.old ≡ 512) × (m ≤ clocks_most) }
-    ensures { ToEnd s.now first start.at m result ends.new }
-{
-    match read_links(start, s, m, ends) {
-        Field::Refused(number, place) => Reading::Refused(number, place),
-        Field::Got(n, c) => {
-            let past = c.at;
-            if past != s.len() {
-                return Reading::Refused(reply::TRAILING, past);
-            }
-            Reading::Got(Found {
-                clocks: m,
-                links: n,
-                clockrows: first,
-            })
+impl Tables {
+    // With nothing in them yet.
+    pub fn empty() -> Tables
+        ensures { (result.nodes ≡ replicate 512 (pos 0)) × (result.states ≡ replicate 128 0) × (result.ends ≡ replicate 512 0) }
+    {
+        Tables {
+            nodes: [0; 512],
+            states: [0; 128],
+            ends: [0; 512],
         }
     }
 }
 
+// The links between m clocks, and nothing after them: their ends are left in `ends`. The clocks' rows begin at `first`.
+fn read_to_end(
+    first: usize,
+    start: Cursor,
+    s: &[u8],
+    m: usize,
+    ends: &mut [u8; 512],
+) -> Result<Found, Refusal>
+    requires { m ≤ clocks_most }
+    ensures { ToEnd s.now first start.at m result ends.new }
+{
+    let (n, c) = read_links(start, s, m, ends)?;
+    if c.at != s.len() {
+        return Err(c.refusal(Cause::Trailing));
+    }
+    Ok(Found {
+        clocks: m,
+        links: n,
+        clockrows: first,
+    })
+}
+
 // The clocks over the words' nodes, and what follows them: each is left in its table.
+#[tactic(auto, using(crate::proofs::Sections::Stages::few_clocks, crate::proofs::Sections::Stages::count_within))]
 fn read_from_clocks(
     start: Cursor,
     s: &[u8],
     words: &[i32],
-    table: &mut [i32],
-    states: &mut [u8],
-    ends: &mut [u8],
-) -> Reading
-    requires { (length table.old ≡ 512) × (length states.old ≡ 128) × (length ends.old ≡ 512) × HoldsNodes words.now }
-    ensures { FromClocks s.now start.at (nodes_in words.now) result table.new states.new ends.new }
+    tables: &mut Tables,
+) -> Result<Found, Refusal>
+    requires { HoldsNodes words.now }
+    ensures { FromClocks s.now start.at (nodes_in words.now) result tables.new.nodes tables.new.states tables.new.ends }
 {
-    match read_clocks(start, s, words, table, states) {
-        Field::Refused(number, place) => Reading::Refused(number, place),
-        Field::Got(m, c) => read_to_end(start.at + 2, c, s, m, ends),
-    }
+    let (m, c) = read_clocks(start, s, words, tables)?;
+    read_to_end(start.at + 2, c, s, m, &mut tables.ends)
 }
 
-// Reads a whole sheet: its clocks' nodes are left in `table`, their states in `states`, its links' ends in `ends`.
-pub fn read(s: &[u8], table: &mut [i32], states: &mut [u8], ends: &mut [u8]) -> Reading
-    requires { (length table.old ≡ 512) × (length states.old ≡ 128) × (length ends.old ≡ 512) }
+// Reads a whole sheet, of which the tables keep what stands in its rows.
+pub fn read(s: &[u8], tables: &mut Tables) -> Result<Found, Refusal>
     ensures found { result ≡ reading_of (read_sheet s.now) }
-    ensures tables { Tabled (read_sheet s.now) table.new states.new ends.new }
+    ensures tables { Tabled (read_sheet s.now) tables.new.nodes tables.new.states tables.new.ends }
 {
     if BYTES_MOST < s.len() {
-        return Reading::Refused(reply::BEYOND, BYTES_MOST);
+        return Err(Refusal {
+            cause: Cause::Beyond,
+            place: BYTES_MOST,
+        });
     }
     let mut list = [0i32; 256];
-    match read_words(Cursor { at: 0 }, s, &mut list) {
-        Field::Refused(number, place) => Reading::Refused(number, place),
-        Field::Got(w, c) => {
-            let end = PER_NODE * w;
-            read_from_clocks(c, s, &list[..end], table, states, ends)
-        }
-    }
+    let (w, c) = read_words(Cursor { at: 0 }, s, &mut list)?;
+    let end = PER_NODE * w;
+    read_from_clocks(c, s, &list[..end], tables)
 }

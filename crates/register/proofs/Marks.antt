@@ -4,8 +4,8 @@ use mathlib.Core.Bool.{Bool, true, false, ◌||◌}
 use mathlib.Core.List.{List, [], ◌∷◌, ◌++◌}
 use mathlib.Core.Option.{some}
 use Prim.Native.Nat.{ℕ, zero, suc, ◌+◌, ◌<◌}
-use native.Mathlib.Nat.{zero-add, suc-add}
 use native.Mathlib.Omega.{arith}
+use Rattle.std.proofs.lemmas.List.{set-append_right}
 use lib.Dec.{eqb, eqb-zero-suc, eqb-suc-zero, eqb-suc-suc}
 use lib.ListN.{length, take, set, get_elem?, length-append}
 use Rattle.envelope.specs.declared.Node.{Node}
@@ -107,8 +107,7 @@ marks_spelled t (k ∷ ks) =
 
 -- a byte of the second of two texts
 pub set_more : (xs ys : List ℕ) (j a : ℕ) → set (xs ++ ys) (length xs + j) a ≡ xs ++ set ys j a
-set_more [] ys j a = ap (λ (i : ℕ). set ys i a) (zero-add j)
-set_more (x ∷ xs) ys j a = ap (λ (i : ℕ). set (x ∷ (xs ++ ys)) i a) (suc-add (length xs) j) ∙ ap {B = List ℕ} (λ r. x ∷ r) (set_more xs ys j a)
+set_more xs ys j a = set-append_right xs ys (length xs) (length xs + j) a refl (omega arith) ∙ ap (λ (i : ℕ). xs ++ set ys i a) (omega arith)
 
 -- one clock closed: the first byte of its row is turned
 pub only_spelled : (ks : List Clock) (i : ℕ) → i < length ks → rows spell_clock (mark_clocks (only i) ks) ≡ set (rows spell_clock ks) (length (rows spell_clock (take i ks))) 1

@@ -1,28 +1,20 @@
 -- Closing a clock: the byte that is turned, the reply, and the bytes at the end.
-use Rattle.std.specs.Prelude.{◌≡◌, cond, List, ℕ, ◌+◌, eqb, set}
+use Rattle.std.specs.Prelude.{◌≡◌, cond, List, ℕ, ◌+◌, eqb, set, Result, Ok, Err}
 use Rattle.reply.specs.Numbers.{already_closed}
 use Rattle.field.specs.Read.{Read, Read.got, Read.refused, bind}
 use Rattle.sheet.specs.Locating.{located_in}
-use Rattle.register.specs.declared.Closing.{Closing}
+use Rattle.reply.specs.declared.Refusal.{Refusal}
+use Rattle.reply.specs.Refusal.{refusal}
 
 -- "Closing: 1 to 10, 16, 17": the place of the state byte that is to be turned
 unfoldable pub closing_of : List ℕ → ℕ → Read ℕ
 closing_of s i =
     bind (located_in s i) λ k c. cond (eqb k.clock.state 1) (refused already_closed 0) (got k.place (k.place + 1))
 
--- the code's answer
-abbrev pub closing_reply : Read ℕ → Closing
-closing_reply (got place c) = Closing.Closed place
-closing_reply (refused number place) = Closing.Refused number place
-
--- its number and place on paper: 0 and the place of the byte, or the refusal's
-abbrev pub closing_number : Closing → ℕ
-closing_number (Closing.Closed place) = 0
-closing_number (Closing.Refused number place) = number
-
-abbrev pub closing_place : Closing → ℕ
-closing_place (Closing.Closed place) = place
-closing_place (Closing.Refused number place) = place
+-- the answer: the place of the byte that was turned, or the refusal
+abbrev pub closing_reply : Read ℕ → Result ℕ Refusal
+closing_reply (got place c) = Ok place
+closing_reply (refused number place) = Err (refusal number place)
 
 -- "Closing turns one state byte from 0 to 1"; on a refusal "no lent memory is written"
 abbrev pub closed_bytes : Read ℕ → List ℕ → List ℕ
@@ -30,6 +22,6 @@ closed_bytes (got place c) s = set s place 1
 closed_bytes (refused number place) s = s
 
 -- the contract of `close`: the reply r, and the bytes t at the end
-pub record Closes (s : List ℕ) (i : ℕ) (r : Closing) (t : List ℕ) : Type 0 where
+pub record Closes (s : List ℕ) (i : ℕ) (r : Result ℕ Refusal) (t : List ℕ) : Type 0 where
   pub reply_is : r ≡ closing_reply (closing_of s i)
   pub bytes_are : t ≡ closed_bytes (closing_of s i) s

@@ -1,5 +1,5 @@
 -- What closing and quoting promise, from the bytes s of a sheet: without a reader, by what stands where in them.
-use Rattle.std.specs.Prelude.{◌≡◌, ◌≢◌, Bool, true, false, ◌||◌, List, [], ◌∷◌, ℕ, suc, ◌+◌, ◌<◌, eqb, length, take, drop, get_or}
+use Rattle.std.specs.Prelude.{◌≡◌, ◌≢◌, Bool, true, false, ◌||◌, List, [], ◌∷◌, ℕ, suc, ◌+◌, ◌<◌, eqb, length, take, drop, get_or, Result}
 use Rattle.std.proofs.Math.Option.{some}
 use Rattle.std.proofs.Math.ListN.{get_elem?}
 use Rattle.expression.specs.Expression.{Clock}
@@ -7,7 +7,7 @@ use Rattle.sheet.specs.Sheet.{Link}
 use Rattle.sheet.specs.SheetRead.{SheetRead}
 use Rattle.sheet.specs.Format.{ClockAt, Passed}
 use Rattle.sizing.specs.Rooms.{row_of, whole_room}
-use Rattle.register.specs.declared.Closing.{Closing}
+use Rattle.reply.specs.declared.Refusal.{Refusal}
 use Rattle.register.specs.Closing.{Closes}
 
 -- ---- closing
@@ -45,7 +45,7 @@ pub record OneClosed (s : List ℕ) (i : ℕ) (o : SheetRead) (place : ℕ) (t :
 -- the clocks of a list are closed one after another: from the bytes s to the bytes t
 pub data ClosedInTurn : List ℕ → List ℕ → List ℕ → Type 0 where
   none : {s : List ℕ} → ClosedInTurn [] s s
-  next : {i : ℕ} {is s t u : List ℕ} {r : Closing} → Closes s i r t → ClosedInTurn is t u → ClosedInTurn (i ∷ is) s u
+  next : {i : ℕ} {is s t u : List ℕ} {r : Result ℕ Refusal} → Closes s i r t → ClosedInTurn is t u → ClosedInTurn (i ∷ is) s u
 
 -- the clocks of a list
 unfoldable pub among : List ℕ → ℕ → Bool

@@ -1,7 +1,8 @@
 -- Quoting a clock: where its expression lies in the sheet, the part that is handed back, and the reply beside it.
-use Rattle.std.specs.Prelude.{◌≡◌, List, [], ℕ, ◌+◌, ◌-◌, take, drop}
+use Rattle.std.specs.Prelude.{◌≡◌, List, [], ℕ, ◌+◌, ◌-◌, take, drop, Result, Ok, Err}
 use Rattle.field.specs.Read.{Read, Read.got, Read.refused, bind}
-use Rattle.register.specs.declared.QuoteReply.{QuoteReply}
+use Rattle.reply.specs.declared.Refusal.{Refusal}
+use Rattle.reply.specs.Refusal.{refusal}
 use Rattle.sheet.specs.Locating.{located_in}
 
 -- where the expression of clock i begins, behind its state, and the place past it; or the refusal: "1 to 10 or 16"
@@ -19,9 +20,9 @@ quoted_part (got from to) s = take (to - from) (drop from s)
 quoted_part (refused number place) s = []
 
 -- "the refusal's number and place, or 0 and 0 where the expression is quoted"
-abbrev pub quote_reply : Read ℕ → QuoteReply
-quote_reply (got from to) = record { number = 0; place = 0 }
-quote_reply (refused number place) = record { number = number; place = place }
+abbrev pub quote_reply : Read ℕ → Result (Unit {0}) Refusal
+quote_reply (got from to) = Ok tt
+quote_reply (refused number place) = Err (refusal number place)
 
 -- the contract of `quote`, where the sheet lies at `at` and the part at `from`, each a block of memory and an offset in it
 pub record Quotes (s : List ℕ) (i : ℕ) (at : ℕ × ℕ) (part : List ℕ) (from : ℕ × ℕ) : Type 0 where
@@ -30,5 +31,5 @@ pub record Quotes (s : List ℕ) (i : ℕ) (at : ℕ × ℕ) (part : List ℕ) (
   pub begins : from.1 ≡ quoted_from (quoting_of s i) + at.1
 
 -- the contract of `quote_reply`
-pub record RepliesTo (s : List ℕ) (i : ℕ) (r : QuoteReply) : Type 0 where
+pub record RepliesTo (s : List ℕ) (i : ℕ) (r : Result (Unit {0}) Refusal) : Type 0 where
   pub reply_is : r ≡ quote_reply (quoting_of s i)

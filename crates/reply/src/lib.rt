@@ -1,36 +1,50 @@
-// The numbers of document 01's replies, each written once. specs/Numbers.antt has their meaning and their places.
+// Refusals: document 01's reply numbers as one enum, each written once, and a refusal with its place. specs/Numbers.antt has their meaning and their places.
 #![tactic(auto)]
 
-pub const MISSING: u8 = 1;
+ghost use Rattle.std.specs.Prelude.{◌≡◌};
+ghost use Rattle.reply.specs.Refusal.{cause_number};
 
-pub const BEYOND: u8 = 2;
+// Why an input is refused, by document 01's numbers.
+#[derive(Clone, Copy, Debug, PartialEq, Eq)]
+pub enum Cause {
+    Missing = 1,
+    Beyond = 2,
+    Unknown = 3,
+    NoOne = 4,
+    Absent = 5,
+    TooDeep = 6,
+    Empty = 7,
+    FullRate = 8,
+    Outgrown = 9,
+    Trailing = 10,
+    ShortResult = 11,
+    NoEnvelope = 12,
+    LongPattern = 13,
+    NotABit = 14,
+    Outside = 15,
+    NoClock = 16,
+    AlreadyClosed = 17,
+}
 
-pub const UNKNOWN: u8 = 3;
+impl Cause {
+    pub fn number(self) -> u8
+        ensures { result ≡ cause_number self }
+    {
+        self as u8
+    }
+}
 
-pub const NO_ONE: u8 = 4;
+// A refusal: why, and at which place of the input.
+#[derive(Clone, Copy, Debug, PartialEq, Eq)]
+pub struct Refusal {
+    pub cause: Cause,
+    pub place: usize,
+}
 
-pub const ABSENT: u8 = 5;
-
-pub const TOO_DEEP: u8 = 6;
-
-pub const EMPTY: u8 = 7;
-
-pub const FULL_RATE: u8 = 8;
-
-pub const OUTGROWN: u8 = 9;
-
-pub const TRAILING: u8 = 10;
-
-pub const SHORT_RESULT: u8 = 11;
-
-pub const NO_ENVELOPE: u8 = 12;
-
-pub const LONG_PATTERN: u8 = 13;
-
-pub const NOT_A_BIT: u8 = 14;
-
-pub const OUTSIDE: u8 = 15;
-
-pub const NO_CLOCK: u8 = 16;
-
-pub const ALREADY_CLOSED: u8 = 17;
+impl Refusal {
+    pub fn number(self) -> u8
+        ensures { result ≡ cause_number self.cause }
+    {
+        self.cause.number()
+    }
+}

@@ -12,7 +12,7 @@ use Rattle.field.proofs.Read.{through, cond_left}
 use Rattle.sheet.specs.Reader.{read_sheet}
 use Rattle.sheet.specs.SheetRead.{SheetRead}
 use Rattle.sizing.specs.Rooms.{row_of, rows_of, open_room, whole_room}
-use Rattle.sizing.specs.WorkOut.{worked_of, clock_numbers, link_numbers, flatten}
+use Rattle.sizing.specs.WorkOut.{worked_of, totals_of, clock_numbers, link_numbers, flatten}
 use Rattle.sizing.proofs.Written.{flatten_length}
 use Rattle.report.specs.Listing.{refused_line, whole_text, text_of, listing_of}
 use Rattle.report.proofs.Bound.{listing_within}
@@ -35,6 +35,8 @@ module _ (s : List ℕ) where
   shows : (clocks links : List ℤ) (o : SheetRead) (c : ℕ) → read_sheet s ≡ got o c → Shows s o (got o c) clocks links
   shows clocks links o c e =
       record {
+        totals = totals_of o;
+        told = refl;
         text = accepted o c e;
         clocks_are = take_at (flatten clock_numbers o.table) _ (4 * length o.table) (flatten_length clock_numbers 4 (λ x. refl) o.table);
         links_are =

@@ -1,5 +1,5 @@
 -- "The listing program": the text of a sheet, field by field, and what `list` answers and writes.
-use Rattle.std.specs.Prelude.{◌≡◌, cond, List, [], ◌∷◌, ◌++◌, map, ℕ, suc, leb, eqb, length}
+use Rattle.std.specs.Prelude.{◌≡◌, cond, List, [], ◌∷◌, ◌++◌, map, ℕ, suc, leb, eqb, length, Result, Ok, Err}
 use Rattle.std.proofs.lemmas.List.Edits.{sets}
 use Rattle.field.specs.Read.{Read, Read.got, Read.refused}
 use Rattle.envelope.specs.declared.Envelope.{Envelope}
@@ -14,7 +14,8 @@ use Rattle.sheet.specs.SheetRead.{SheetRead}
 use Rattle.sizing.specs.Rooms.{rows_of, total, size_of_row}
 use Rattle.line.specs.Letters.{letters}
 use Rattle.line.specs.Text.{digits, decimal, line_of, outcome_fields}
-use Rattle.report.specs.declared.Listed.{Listed}
+use Rattle.reply.specs.declared.Refusal.{Refusal}
+use Rattle.reply.specs.Refusal.{refusal}
 
 -- "open" or "closed"
 abbrev pub state_word : ℕ → List ℕ
@@ -79,39 +80,29 @@ unfoldable pub listing_of : List ℕ → List ℕ
 listing_of s = text_of (read_sheet s)
 
 -- the length of a text; "a lent result slice is too short" is 11, at 0
-abbrev pub fitted_text : List ℕ → ℕ → Listed
-fitted_text t room = cond (leb (length t) room) (Listed.Text (length t)) (Listed.Refused 11 0)
+abbrev pub fitted_text : List ℕ → ℕ → Result ℕ Refusal
+fitted_text t room = cond (leb (length t) room) (Ok (length t)) (Err (refusal 11 0))
 
 -- the buffer at the end: the text and what stood past it, or all as it was
 abbrev pub over : List ℕ → List ℕ → List ℕ
 over t text = cond (leb (length t) (length text)) (sets text 0 t) text
 
 -- a refused sheet's number and place go straight back, and nothing is written
-abbrev pub listed_in : Read SheetRead → ℕ → Listed
+abbrev pub listed_in : Read SheetRead → ℕ → Result ℕ Refusal
 listed_in (got o c) room = fitted_text (sheet_text o) room
-listed_in (refused number place) room = Listed.Refused number place
+listed_in (refused number place) room = Err (refusal number place)
 
 abbrev pub text_in : Read SheetRead → List ℕ → List ℕ
 text_in (got o c) text = over (sheet_text o) text
 text_in (refused number place) text = text
 
-unfoldable pub listed_of : List ℕ → ℕ → Listed
+unfoldable pub listed_of : List ℕ → ℕ → Result ℕ Refusal
 listed_of s room = listed_in (read_sheet s) room
 
 unfoldable pub text_after : List ℕ → List ℕ → List ℕ
 text_after s text = text_in (read_sheet s) text
 
--- the number of the reply, 0 where the text is listed
-abbrev pub listed_number : Listed → ℕ
-listed_number (Listed.Text length) = 0
-listed_number (Listed.Refused number place) = number
-
--- and its place
-abbrev pub listed_place : Listed → ℕ
-listed_place (Listed.Text length) = 0
-listed_place (Listed.Refused number place) = place
-
 -- the contract of `list`: its answer, and what the lent buffer holds at the end
-pub record ListsInto (s text : List ℕ) (answer : Listed) (text_end : List ℕ) : Type 0 where
+pub record ListsInto (s text : List ℕ) (answer : Result ℕ Refusal) (text_end : List ℕ) : Type 0 where
   pub answer_is : answer ≡ listed_of s (length text)
   pub text_is : text_end ≡ text_after s text

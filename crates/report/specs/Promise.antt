@@ -1,9 +1,10 @@
 -- What is proved of the listing, one field for each promise: of a text s of bytes.
-use Rattle.std.specs.Prelude.{◌≡◌, List, ◌++◌, map, ℕ, ◌*◌, ◌≤◌, ℤ, length, take}
+use Rattle.std.specs.Prelude.{◌≡◌, List, ◌++◌, map, ℕ, ◌*◌, ◌≤◌, ℤ, length, take, Ok}
 use Rattle.field.specs.Read.{Read, Read.got, Read.refused}
 use Rattle.field.specs.Spelling.{AllBytes}
 use Rattle.sheet.specs.Reader.{read_sheet}
 use Rattle.sheet.specs.SheetRead.{SheetRead}
+use Rattle.sizing.specs.declared.Totals.{Totals}
 use Rattle.sizing.specs.Rooms.{rows_of, open_room, whole_room}
 use Rattle.reading.specs.Inner.Sections.{state_of_clock}
 use Rattle.sizing.specs.WorkOut.{worked_of, reply_of, clock_numbers, link_numbers, flatten, clocks_out, links_out}
@@ -18,12 +19,14 @@ sheet_lines o opened whole =
 
 -- the listing shows what working the sheet out gives: w, with the slices `clocks` and `links` lent
 pub record Shows (s : List ℕ) (o : SheetRead) (w : Read SheetRead) (clocks links : List ℤ) : Type 0 where
+  pub totals : Totals
+  pub told : reply_of w ≡ Ok totals
   -- the room line has the two rooms of the reply
-  pub text : listing_of s ≡ sheet_lines o (reply_of w).opened (reply_of w).whole
+  pub text : listing_of s ≡ sheet_lines o totals.opened totals.whole
   -- the clock lines have the k, K, l and n that are filled into the one slice
-  pub clocks_are : take (4 * (reply_of w).clocks) (clocks_out w clocks) ≡ flatten clock_numbers o.table
+  pub clocks_are : take (4 * totals.clocks) (clocks_out w clocks) ≡ flatten clock_numbers o.table
   -- the link lines have the verdicts, sizes and states that are filled into the other
-  pub links_are : take (3 * (reply_of w).links) (links_out w links) ≡ flatten link_numbers (rows_of o)
+  pub links_are : take (3 * totals.links) (links_out w links) ≡ flatten link_numbers (rows_of o)
 
 pub record Listing (s : List ℕ) : Type 0 where
   -- every sheet that is accepted is listed, line for line

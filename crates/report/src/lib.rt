@@ -2,185 +2,157 @@
 #![tactic(auto)]
 
 ghost use Rattle.std.specs.Prelude.{◌≡◌, ◌≤◌, leb, length};
-ghost use Rattle.line.specs.Text.{out_of, put_field, put_fields, put_line, Put};
+ghost use Rattle.line.specs.Text.{put, put_field, put_fields, put_line, Put};
+ghost use Rattle.line.specs.Writing.{out_in, Leaves};
 ghost use Rattle.expression.specs.Inner.Nodes.{nodes_in};
 ghost use Rattle.reading.specs.Inner.Sections.{links_of};
-ghost use Rattle.sizing.specs.Inner.Rows.{rows_in, Ready};
+ghost use Rattle.sizing.specs.Inner.Rows.{rows_in};
 ghost use Rattle.line.specs.Letters.{letters};
 ghost use Rattle.report.specs.Listing.{state_word, verdict_word, envelope_fields, clock_fields, link_fields, room_fields, clock_lines, listing_most, fitted_text, over, ListsInto};
-ghost use Rattle.report.specs.Inner.Parts.{Many, LinksPut, table_text};
+ghost use Rattle.report.specs.Inner.Parts.{LinksPut, table_text};
 
 use envelope::Envelope;
-use expression::{PER_NODE, entry};
-use line::{put_byte, put_bytes, put_decimal_field, put_digits_field, put_word_field};
+use expression::entry;
+use line::{LINE_FEED, Writer};
 use link::{Row, Verdict};
-use reading::Reading;
-use sizing::Rooms;
+use reading::Tables;
+use reply::{Cause, Refusal};
+use sizing::{Rooms, Rows};
 
 // No listing is longer.
 pub const TEXT_MOST: usize = 18_463;
 
-fn put_state(out: &mut [u8], at: usize, state: u8) -> usize
-    ensures { out_of out.new result ≡ put_field (out_of out.old at) (state_word state) }
+fn put_state(out: &mut Writer<'_>, state: u8)
+    ensures { Leaves out.old out.new (put_field (out_in out.old) (state_word state)) }
 {
     if state == 1 {
-        return put_word_field(out, at, b"closed");
+        return out.put_field(b"closed".as_slice());
     }
-    put_word_field(out, at, b"open")
+    out.put_field(b"open".as_slice())
 }
 
-fn put_verdict(out: &mut [u8], at: usize, v: Verdict) -> usize
-    ensures { out_of out.new result ≡ put_field (out_of out.old at) (verdict_word v) }
+fn put_verdict(out: &mut Writer<'_>, v: Verdict)
+    ensures { Leaves out.old out.new (put_field (out_in out.old) (verdict_word v)) }
 {
     match v {
-        Verdict::Accepted(_) => put_word_field(out, at, b"accepted"),
-        Verdict::Rates => put_word_field(out, at, b"rates"),
-        Verdict::Early => put_word_field(out, at, b"early"),
+        Verdict::Accepted(_) => out.put_field(b"accepted".as_slice()),
+        Verdict::Rates => out.put_field(b"rates".as_slice()),
+        Verdict::Early => out.put_field(b"early".as_slice()),
     }
 }
 
-fn put_envelope(out: &mut [u8], at: usize, e: Envelope) -> usize
-    ensures { out_of out.new result ≡ put_fields (out_of out.old at) (envelope_fields e) }
+fn put_envelope(out: &mut Writer<'_>, e: Envelope)
+    ensures { Leaves out.old out.new (put_fields (out_in out.old) (envelope_fields e)) }
 {
-    let a = put_decimal_field(out, at, e.k);
-    let b = put_decimal_field(out, a, e.K);
-    let c = put_digits_field(out, b, e.l);
-    put_digits_field(out, c, e.n)
+    out.put_field(e.k);
+    out.put_field(e.K);
+    out.put_field(e.l);
+    out.put_field(e.n);
 }
 
-fn put_clock(out: &mut [u8], at: usize, i: usize, state: u8, e: Envelope) -> usize
-    ensures { out_of out.new result ≡ put_line (out_of out.old at) (letters "clock") (clock_fields i state e) }
+fn put_clock(out: &mut Writer<'_>, i: usize, state: u8, e: Envelope)
+    ensures { Leaves out.old out.new (put_line (out_in out.old) (letters "clock") (clock_fields i state e)) }
 {
-    let a = put_bytes(out, at, b"clock");
-    let b = put_digits_field(out, a, i as u64);
-    let c = put_state(out, b, state);
-    let d = put_envelope(out, c, e);
-    put_byte(out, d, line::LINE_FEED)
+    out.put_bytes(b"clock");
+    out.put_field(i as u64);
+    put_state(out, state);
+    put_envelope(out, e);
+    out.put_byte(LINE_FEED);
 }
 
-fn put_link(out: &mut [u8], at: usize, i: usize, r: Row) -> usize
-    ensures { out_of out.new result ≡ put_line (out_of out.old at) (letters "link") (link_fields i r) }
+fn put_link(out: &mut Writer<'_>, i: usize, r: Row)
+    ensures { Leaves out.old out.new (put_line (out_in out.old) (letters "link") (link_fields i r)) }
 {
-    let v = r.verdict;
-    let a = put_bytes(out, at, b"link");
-    let b = put_digits_field(out, a, i as u64);
-    let c = put_digits_field(out, b, r.producer as u64);
-    let d = put_digits_field(out, c, r.consumer as u64);
-    let e = put_state(out, d, r.state);
-    let f = put_verdict(out, e, v);
-    let g = put_digits_field(out, f, v.size());
-    put_byte(out, g, line::LINE_FEED)
+    out.put_bytes(b"link");
+    out.put_field(i as u64);
+    out.put_field(r.producer as u64);
+    out.put_field(r.consumer as u64);
+    put_state(out, r.state);
+    put_verdict(out, r.verdict);
+    out.put_field(r.verdict.size());
+    out.put_byte(LINE_FEED);
 }
 
-fn put_room(out: &mut [u8], at: usize, opened: u64, whole: u64) -> usize
-    ensures { out_of out.new result ≡ put_line (out_of out.old at) (letters "room") (room_fields opened whole) }
+fn put_room(out: &mut Writer<'_>, rooms: Rooms)
+    ensures { Leaves out.old out.new (put_line (out_in out.old) (letters "room") (room_fields rooms.opened rooms.whole)) }
 {
-    let a = put_bytes(out, at, b"room");
-    let b = put_digits_field(out, a, opened);
-    let c = put_digits_field(out, b, whole);
-    put_byte(out, c, line::LINE_FEED)
+    out.put_bytes(b"room");
+    out.put_field(rooms.opened);
+    out.put_field(rooms.whole);
+    out.put_byte(LINE_FEED);
 }
 
-fn put_clocks(out: &mut [u8], start: usize, table: &[i32], states: &[u8]) -> usize
-    requires { Many table.now states.now }
-    ensures { Put out.old start (clock_lines 0 states.now (nodes_in table.now)) out.new result }
+fn put_clocks(out: &mut Writer<'_>, rows: &Rows)
+    ensures { Leaves out.old out.new (put (out_in out.old) (clock_lines 0 rows.now.states.now (nodes_in rows.now.nodes.now))) }
 {
-    let mut at = start;
-    let mut i: usize = 0;
-    while i < states.len() {
-        let x = entry(table, i);
-        at = put_clock(out, at, i, states[i], x.envelope);
-        i += 1;
+    for (i, &state) in rows.states.iter().enumerate() {
+        let x = entry(rows.nodes, i);
+        put_clock(out, i, state, x.envelope);
     }
-    at
 }
 
-// The place past the links' lines, and both rooms.
-#[derive(Clone, Copy)]
-struct Summed {
-    past: usize,
-    rooms: Rooms,
-}
-
-fn put_links(
-    out: &mut [u8],
-    start: usize,
-    table: &[i32],
-    states: &[u8],
-    ends: &[u8],
-    n: usize,
-) -> Summed
-    requires { Ready table.now states.now ends.now n }
-    ensures { LinksPut out.old start (rows_in (nodes_in table.now) states.now (links_of ends.now)) out.new result }
+// The links' lines, and both rooms.
+fn put_links(out: &mut Writer<'_>, rows: &Rows) -> Rooms
+    ensures { LinksPut out.old (rows_in (nodes_in rows.now.nodes.now) rows.now.states.now (links_of rows.now.ends.now)) out.new result }
 {
-    let mut at = start;
-    let mut i: usize = 0;
-    let mut rooms = Rooms::none();
-    while i < n {
-        let r = sizing::row(ends, i, table, states);
-        at = put_link(out, at, i, r);
+    let mut rooms = Rooms::default();
+    for i in 0..rows.links {
+        let r = rows.row(i);
+        put_link(out, i, r);
         rooms = rooms.plus(r);
-        i += 1;
     }
-    Summed { past: at, rooms }
+    rooms
 }
 
-// The sheet whose nodes, states and links' ends are in the tables.
-fn put_sheet(out: &mut [u8], table: &[i32], states: &[u8], ends: &[u8], n: usize) -> usize
-    requires { Ready table.now states.now ends.now n }
-    ensures { Put out.old 0 (table_text table.now states.now ends.now) out.new result }
+// The clocks' lines, the links' lines and the room line.
+fn put_lines(out: &mut Writer<'_>, rows: &Rows)
+    ensures { Leaves out.old out.new (put (out_in out.old) (table_text rows.now.nodes.now rows.now.states.now rows.now.ends.now)) }
 {
-    let a = put_clocks(out, 0, table, states);
-    let b = put_links(out, a, table, states, ends, n);
-    let q = b.rooms;
-    put_room(out, b.past, q.opened, q.whole)
+    put_clocks(out, rows);
+    let rooms = put_links(out, rows);
+    put_room(out, rooms);
 }
 
-// The length of the text, or a refusal's number and place: a buffer that is too short is one too. Only where the text fits is anything written.
-#[derive(Clone, Copy)]
-pub enum Listed {
-    Text(usize),
-    Refused(u8, usize),
+// The text into a buffer, from its start on, and its length.
+fn put_sheet(text: &mut [u8], rows: &Rows) -> usize
+    ensures { Put text.old 0 (table_text rows.now.nodes.now rows.now.states.now rows.now.ends.now) text.new result }
+{
+    let mut out = Writer::new(text);
+    put_lines(&mut out, rows);
+    out.at
 }
 
 // Whether so many bytes are enough for the text. An empty buffer measures it, where there are fewer than the longest text has.
-fn enough(table: &[i32], states: &[u8], ends: &[u8], n: usize, room: usize) -> bool
-    requires { Ready table.now states.now ends.now n × (length (table_text table.now states.now ends.now) ≤ listing_most) }
-    ensures { result ≡ leb (length (table_text table.now states.now ends.now)) room }
+fn enough(rows: &Rows, room: usize) -> bool
+    requires { length (table_text rows.now.nodes.now rows.now.states.now rows.now.ends.now) ≤ listing_most }
+    ensures { result ≡ leb (length (table_text rows.now.nodes.now rows.now.states.now rows.now.ends.now)) room }
 {
     if TEXT_MOST <= room {
         return true;
     }
     let mut none = [0u8; 0];
-    put_sheet(&mut none, table, states, ends, n) <= room
+    put_sheet(&mut none, rows) <= room
 }
 
-fn list_read(table: &[i32], states: &[u8], ends: &[u8], n: usize, text: &mut [u8]) -> Listed
-    requires { Ready table.now states.now ends.now n × (length (table_text table.now states.now ends.now) ≤ listing_most) }
-    ensures listed { result ≡ fitted_text (table_text table.now states.now ends.now) (length text.old) }
-    ensures text { text.new ≡ over (table_text table.now states.now ends.now) text.old }
+fn list_rows(rows: &Rows, text: &mut [u8]) -> Result<usize, Refusal>
+    requires { length (table_text rows.now.nodes.now rows.now.states.now rows.now.ends.now) ≤ listing_most }
+    ensures listed { result ≡ fitted_text (table_text rows.now.nodes.now rows.now.states.now rows.now.ends.now) (length text.old) }
+    ensures text { text.new ≡ over (table_text rows.now.nodes.now rows.now.states.now rows.now.ends.now) text.old }
 {
-    if enough(table, states, ends, n, text.len()) {
-        return Listed::Text(put_sheet(text, table, states, ends, n));
+    if enough(rows, text.len()) {
+        return Ok(put_sheet(text, rows));
     }
-    Listed::Refused(reply::SHORT_RESULT, 0)
+    Err(Refusal {
+        cause: Cause::ShortResult,
+        place: 0,
+    })
 }
 
-// The listing of any bytes, or their refusal.
-pub fn list(sheet: &[u8], text: &mut [u8]) -> Listed
+// The listing of any bytes, and its length; or their refusal. A buffer that is too short is refused too. Only where the text fits is anything written.
+pub fn list(sheet: &[u8], text: &mut [u8]) -> Result<usize, Refusal>
     ensures { ListsInto sheet.now text.old result text.new }
 {
-    let mut table = [0i32; 512];
-    let mut states = [0u8; 128];
-    let mut ends = [0u8; 512];
-    match reading::read(sheet, &mut table, &mut states, &mut ends) {
-        Reading::Refused(number, place) => Listed::Refused(number, place),
-        Reading::Got(f) => {
-            let m = f.clocks;
-            let n = f.links;
-            let nodes = PER_NODE * m;
-            let pairs = 2 * n;
-            list_read(&table[..nodes], &states[..m], &ends[..pairs], n, text)
-        }
-    }
+    let mut tables = Tables::empty();
+    let found = reading::read(sheet, &mut tables)?;
+    list_rows(&Rows::of(&tables, found), text)
 }

@@ -4,7 +4,7 @@ use mathlib.Core.Path.{◌≡◌, refl, sym, ap₂, ◌∙◌, subst}
 use mathlib.Core.Bool.{Bool, true, false, cond}
 use mathlib.Core.List.{List}
 use mathlib.Core.Option.{Option, none, some}
-use Prim.Native.Nat.{ℕ, ◌-◌, ◌≤◌, ◌<◌}
+use Prim.Native.Nat.{ℕ, ◌+◌, ◌-◌, ◌*◌, ◌≤◌, ◌<◌}
 use native.Mathlib.Omega.{arith}
 use lib.IntN.{ℤ, pos, negsuc, nat_abs, ◌-ℤ◌, ◌*ℤ◌}
 use lib.Signed.{◌≤ℤ◌}
@@ -26,7 +26,7 @@ use Rattle.expression.specs.Inner.Nodes.{HasNode, nodes_in, node_at, AllTaken, H
 use Rattle.expression.proofs.Tables.{node_at_lem}
 use Rattle.sheet.specs.Sheet.{Link}
 use Rattle.sizing.specs.Rooms.{verdict_between, verdict_in, size_of_row}
-use Rattle.sizing.specs.Inner.Rows.{row_at}
+use Rattle.sizing.specs.Inner.Rows.{row_at, Ready}
 
 -- ---- sizes are small
 size_small : (e f : Envelope) → Taken e → Taken f → Passes e f → nat_abs (size_of e f) ≤ 3000000000
@@ -80,6 +80,13 @@ number_small Early = omega arith
 -- ---- a row, from the entries of the table
 pub entry_taken : (t : List ℤ) (i : ℕ) (x : Node) → HoldsNodes t → HasNode t i → x ≡ node_at t i → Taken x.envelope
 entry_taken t i x h l p = subst (λ (y : Node). Taken y.envelope) (sym p) (h.taken i (node_at t i) (node_at_lem t i l))
+
+-- both ends of link i are clocks of the table
+pub ends_there : {t : List ℤ} {ss es : List ℕ} {n : ℕ} → Ready t ss es n → (i : ℕ) → i < n → HasNode t (get_or es (2 * i) 0) × HasNode t (get_or es (2 * i + 1) 0)
+ends_there h i lt = (
+  omega (arith, h.many, h.there (2 * i) (omega (arith, h.pairs))),
+  omega (arith, h.many, h.there (2 * i + 1) (omega (arith, h.pairs))),
+)
 
 pub row_is :
     (t : List ℤ) (ss : List ℕ) (l : Link) (x y : Node) (v : Verdict) (state : ℕ) →

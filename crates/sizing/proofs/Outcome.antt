@@ -1,10 +1,12 @@
 -- What working out answers and leaves, by what the code's reader of a whole sheet answered and left.
 -- Assumes nothing.
 use mathlib.Core.Path.{◌≡◌, refl, sym, ap, ap₂, ◌∙◌, subst}
+use mathlib.Core.Logic.{◌⊎◌, inl, inr}
 use mathlib.Core.List.{List, [], ◌∷◌, ◌++◌, map}
 use Prim.Native.Nat.{ℕ, zero, suc, ◌*◌, ◌≤◌, ◌<◌}
 use native.Mathlib.Omega.{arith}
 use lib.IntN.{ℤ}
+use Rattle.std.specs.Prelude.{Result, Ok, Err}
 use lib.ListN.{length, get_or, get_elem?, take, drop, length-map}
 use borrow.Author.Tests.{le-leb, lt-leb}
 use Rattle.reply.specs.Numbers.{short_result}
@@ -16,36 +18,29 @@ use Rattle.expression.specs.Expression.{Clock}
 use Rattle.envelope.specs.declared.Node.{Node}
 use Rattle.expression.specs.Inner.Nodes.{per_node, flats, nodes_in}
 use Rattle.expression.proofs.Tables.{flats_length, nodes_many}
+use Rattle.reply.specs.declared.Cause.{Cause}
+use Rattle.reply.specs.declared.Cause.TheVariants.{ShortResult}
+use Rattle.reply.proofs.Causes.{cause_with_number}
+use Rattle.reply.specs.declared.Refusal.{Refusal}
+use Rattle.reply.specs.Refusal.{refusal, refused_for}
 use Rattle.reading.specs.declared.Found.{Found}
-use Rattle.reading.specs.declared.Reading.{Reading}
 use Rattle.sizing.specs.declared.Rooms.{Rooms}
-use Rattle.sizing.specs.declared.Reply.{Reply}
+use Rattle.sizing.specs.declared.Totals.{Totals}
 use Rattle.sheet.specs.Sheet.{Link, clocks_most, links_most}
 use Rattle.sheet.specs.Reader.{read_sheet}
 use Rattle.sheet.specs.SheetRead.{SheetRead}
 use Rattle.sizing.specs.Rooms.{state_in, row_of, rows_of, open_room, whole_room, verdict_in}
-use Rattle.sizing.specs.WorkOut.{room_for, worked_of, refusal_of, reply_of, clock_numbers, link_numbers, flatten, clocks_out, links_out, WorksOut}
+use Rattle.sizing.specs.WorkOut.{room_for, worked_of, reply_of, clock_numbers, link_numbers, flatten, clocks_out, links_out, WorksOut}
 use Rattle.reading.specs.Inner.Sections.{flat_links, links_of, found_of, reading_of, state_of_clock, Tabled}
-use Rattle.sizing.specs.Inner.Rows.{row_at, rows_in, rooms_over, Ready, Given}
+use Rattle.sizing.specs.Inner.Rows.{row_at, rows_in, rooms_over, Ready, FoundIn, Shows, Given}
 use Rattle.sheet.proofs.Spelling.Sheets.{Opens, sheet_reads}
-use Rattle.reading.proofs.Tables.LinkTable.{flat_length, links_flat, ends_small, links_many}
-use Rattle.reading.proofs.Tables.NodeTables.{lent_holds, lent_nodes}
+use Rattle.reading.proofs.Sections.LinkTable.{flat_length, links_flat, ends_small, links_many}
+use Rattle.reading.proofs.Sections.NodeTables.{lent_holds, lent_nodes}
 
 -- ---- the reading, by what the code's reader answered
-pub reading_refused : (X : Read SheetRead) (number place : ℕ) → Reading.Refused number place ≡ reading_of X → X ≡ refused number place
-reading_refused (got o c) number place e =
-    let z : ◌≡◌ {A = ℕ} 0 1 = cc in
-    absurd (omega arith)
-reading_refused (refused k q) number place e =
-    let z : k ≡ number = cc in
-    let w : q ≡ place = cc in
-    ap₂ {A = ℕ} {B = ℕ} {C = Read SheetRead} (λ (x y : ℕ). refused x y) z w
-
-pub reading_got : (X : Read SheetRead) (f : Found) → Reading.Got f ≡ reading_of X → (o : SheetRead) × (c : ℕ) × (X ≡ got o c) × (found_of o ≡ f)
+reading_got : (X : Read SheetRead) (f : Found) → reading_of X ≡ Ok f → (o : SheetRead) × (c : ℕ) × (X ≡ got o c) × (found_of o ≡ f)
 reading_got (got o c) f e = (o, c, refl, cc)
-reading_got (refused number place) f e =
-    let z : ◌≡◌ {A = ℕ} 0 1 = cc in
-    absurd (omega arith)
+reading_got (refused number place) f e = absurd (cc)
 
 -- how many clocks and links were found
 module _ (o : SheetRead) (f : Found) (f_is : found_of o ≡ f) where
@@ -55,14 +50,16 @@ module _ (o : SheetRead) (f : Found) (f_is : found_of o ≡ f) where
   links_are : length o.sheet.links ≡ f.links
   links_are = ap (λ (x : Found). x.links) f_is
 
--- ---- the answer to a sheet that is refused, or for whose results there is too little room
-pub out_refused : (s : List ℕ) (clocks links : List ℤ) (number place : ℕ) (r : Reply) → worked_of s (length clocks) (length links) ≡ refused number place → r ≡ refusal_of number place
-    → WorksOut s clocks links r clocks links
-out_refused s clocks links number place r e h = record { reply_is = rw e h; clocks_are = rw e; links_are = rw e }
-
-pub not_read : (s : List ℕ) (A B number place : ℕ) → read_sheet s ≡ refused number place → worked_of s A B ≡ refused number place
+-- ---- the answer to a sheet that is refused
+pub out_refused : (s : List ℕ) (clocks links : List ℤ) (e : Refusal) → reading_of (read_sheet s) ≡ Err e → WorksOut s clocks links (Err e) clocks links
 unfolding worked_of
-not_read s A B number place e = rw e
+out_refused s clocks links e h = go (read_sheet s) refl h
+  where
+    go : (X : Read SheetRead) → read_sheet s ≡ X → reading_of X ≡ Err e → WorksOut s clocks links (Err e) clocks links
+    go (got o c) x p = absurd (cc)
+    go (refused number place) x p =
+        let z : refusal number place ≡ e = cc in
+        record { reply_is = rw x (ap Err (sym z)); clocks_are = rw x; links_are = rw x }
 
 -- ---- a sheet that was read
 module _ (s : List ℕ) (bytes : AllBytes s) (o : SheetRead) (c : ℕ) (read : read_sheet s ≡ got o c) where
@@ -94,10 +91,10 @@ rows_are o (l ∷ ls) = ap₂ {C = List Row} (λ r rs. r ∷ rs) one (rows_are o
 
 -- ---- a sheet that was read, by what was found: how many clocks and links
 module _ (s : List ℕ) (bytes : AllBytes s) (o : SheetRead) (c : ℕ) (read : read_sheet s ≡ got o c) (f : Found) (f_is : found_of o ≡ f) where
-  pub clocks_few : f.clocks ≤ clocks_most
+  clocks_few : f.clocks ≤ clocks_most
   clocks_few = omega (arith, few_clocks s bytes o c read, clocks_are o f f_is)
 
-  pub links_few : f.links ≤ links_most
+  links_few : f.links ≤ links_most
   links_few = omega (arith, few_links s bytes o c read, links_are o f f_is)
 
   -- with its tables
@@ -108,10 +105,10 @@ module _ (s : List ℕ) (bytes : AllBytes s) (o : SheetRead) (c : ℕ) (read : r
     nodes : take (per_node * f.clocks) t ≡ flats o.table
     nodes = rw (← clocks_are o f f_is) tables.0
 
-    pub states : take f.clocks ss ≡ map state_of_clock o.sheet.clocks
+    states : take f.clocks ss ≡ map state_of_clock o.sheet.clocks
     states = rw (← clocks_are o f f_is) tables.1
 
-    pub table_is : nodes_in (take (per_node * f.clocks) t) ≡ o.table
+    table_is : nodes_in (take (per_node * f.clocks) t) ≡ o.table
     table_is = lent_nodes t f.clocks o.table nodes tables.2
 
     lent_many : length (take (per_node * f.clocks) t) ≡ per_node * f.clocks
@@ -123,10 +120,10 @@ module _ (s : List ℕ) (bytes : AllBytes s) (o : SheetRead) (c : ℕ) (read : r
     ends : take (2 * f.links) es ≡ flat_links o.sheet.links
     ends = rw (← links_are o f f_is) tables.3
 
-    pub links_is : links_of (take (2 * f.links) es) ≡ o.sheet.links
+    links_is : links_of (take (2 * f.links) es) ≡ o.sheet.links
     links_is = ap links_of ends ∙ links_flat o.sheet.links
 
-    pub ready : Ready (take (per_node * f.clocks) t) (take f.clocks ss) (take (2 * f.links) es) f.links
+    ready : Ready (take (per_node * f.clocks) t) (take f.clocks ss) (take (2 * f.links) es) f.links
     ready =
         let q = opens s bytes o c read in
         record {
@@ -140,51 +137,72 @@ module _ (s : List ℕ) (bytes : AllBytes s) (o : SheetRead) (c : ℕ) (read : r
               (ends_small (length o.sheet.clocks) [] o.sheet.links q.legal.links_legal);
         }
 
-    -- what is given of the tables is what working the sheet out gives
-    pub out_given : (x x' l l' : List ℤ) (r : Reply) → Given (take (per_node * f.clocks) t) (take f.clocks ss) (take (2 * f.links) es) x l r x' l' → WorksOut s x l r x' l'
-    unfolding worked_of
-    out_given x x' l l' r g =
-        let d = g o c table_is states links_is in
-        record { reply_is = rw read d.0; clocks_are = rw read d.1; links_are = rw read d.2 }
+    shows : Shows o (take (per_node * f.clocks) t) (take f.clocks ss) (take (2 * f.links) es)
+    shows = record { nodes = table_is; states = states; links = links_is }
 
 -- ---- what is given: by the room that was lent
+short_is : ◌≡◌ {A = Result Totals Refusal} (refused_for ShortResult 0) (Err (refusal short_result 0))
+short_is = ap (λ (k : Cause). Err (record { cause = k; place = 0 })) (sym (cause_with_number ShortResult))
+
 module _ (t : List ℤ) (ss es : List ℕ) (n : ℕ) (ready : Ready t ss es n) (x l : List ℤ) where
-  given_by : (r : Reply) (x' l' : List ℤ)
-      → ((o : SheetRead) → nodes_in t ≡ o.table → ss ≡ map state_of_clock o.sheet.clocks → links_of es ≡ o.sheet.links → length ss ≡ length o.table → n ≡ length o.sheet.links
+  given_by : (r : Result Totals Refusal) (x' l' : List ℤ)
+      → ((o : SheetRead) → Shows o t ss es → length ss ≡ length o.table → n ≡ length o.sheet.links
       → (c : ℕ) → (X : Read SheetRead) × (room_for (length x) (length l) o c ≡ X) × (r ≡ reply_of X) × (x' ≡ clocks_out X x) × (l' ≡ links_out X l))
       → Given t ss es x l r x' l'
-  given_by r x' l' go o c nodes states links =
-      let many : length ss ≡ length o.table = omega (arith, nodes_many t, ready.many, ap length nodes) in
-      let few : n ≡ length o.sheet.links = sym (links_many n es ready.pairs) ∙ ap length links in
-      let w = go o nodes states links many few c in
+  given_by r x' l' go o c h =
+      let many : length ss ≡ length o.table = omega (arith, nodes_many t, ready.many, ap length h.nodes) in
+      let few : n ≡ length o.sheet.links = sym (links_many n es ready.pairs) ∙ ap length h.links in
+      let w = go o h many few c in
       rw w.1 (w.2, w.3, w.4)
 
-  -- too little for the clocks
-  pub short_clocks : (r : Reply) → length x < 4 * length ss → r ≡ refusal_of short_result 0 → Given t ss es x l r x l
-  short_clocks r h e =
-      given_by r x l λ o nodes states links many few c.
-      (refused short_result 0, rw (lt-leb (4 * length o.table) (length x) (omega (arith, many))), e, refl, refl)
+  -- too little for the clocks or for the links
+  pub short : (r : Result Totals Refusal) → (length x < 4 * length ss) ⊎ ((4 * length ss ≤ length x) × (length l < 3 * n)) → r ≡ refused_for ShortResult 0 → Given t ss es x l r x l
+  short r (inl h) e =
+      given_by r x l λ o shown many few c.
+      (refused short_result 0, rw (lt-leb (4 * length o.table) (length x) (omega (arith, many))), e ∙ short_is, refl, refl)
+  short r (inr h) e =
+      given_by r x l λ o shown many few c.
+      (refused short_result 0, rw (le-leb (4 * length o.table) (length x) (omega (arith, many, h)), lt-leb (3 * length o.sheet.links) (length l) (omega (arith, few, h))), e ∙ short_is, refl, refl)
 
-  module _ (fits : 4 * length ss ≤ length x) where
-    -- too little for the links
-    pub short_links : (r : Reply) → length l < 3 * n → r ≡ refusal_of short_result 0 → Given t ss es x l r x l
-    short_links r h e =
-        given_by r x l λ o nodes states links many few c.
-        (refused short_result 0, rw (le-leb (4 * length o.table) (length x) (omega (arith, many)), lt-leb (3 * length o.sheet.links) (length l) (omega (arith, few))), e, refl, refl)
+  pub given_all : 4 * length ss ≤ length x → 3 * n ≤ length l → (q : Rooms) (x' l' : List ℤ)
+      → x' ≡ flatten clock_numbers (nodes_in t) ++ drop (4 * length ss) x
+      → q ≡ rooms_over (rows_in (nodes_in t) ss (links_of es))
+      → l' ≡ flatten link_numbers (rows_in (nodes_in t) ss (links_of es)) ++ drop (3 * n) l
+      → Given t ss es x l (Ok (record { clocks = length ss; links = n; opened = q.opened; whole = q.whole })) x' l'
+  unfolding open_room whole_room
+  given_all fits h q x' l' p e d =
+      given_by _ x' l' λ o shown many few c.
+      let rows : rows_in (nodes_in t) ss (links_of es) ≡ rows_of o = rw (shown.nodes, shown.states, shown.links) (rows_are o o.sheet.links) in
+      let sums : q ≡ rooms_over (rows_of o) = e ∙ ap rooms_over rows in (
+        got o c,
+        rw (le-leb (4 * length o.table) (length x) (omega (arith, many)), le-leb (3 * length o.sheet.links) (length l) (omega (arith, few))),
+        λ i. Ok (record { clocks = many i; links = few i; opened = (sums i).opened; whole = (sums i).whole }),
+        p ∙ ap₂ (λ (ys : List Node) (k : ℕ). flatten clock_numbers ys ++ drop (4 * k) x) shown.nodes many,
+        d ∙ ap₂ (λ (rs : List Row) (k : ℕ). flatten link_numbers rs ++ drop (3 * k) l) rows few,
+      )
 
-    pub given_all : 3 * n ≤ length l → (q : Rooms) (x' l' : List ℤ)
-        → x' ≡ flatten clock_numbers (nodes_in t) ++ drop (4 * length ss) x
-        → q ≡ rooms_over (rows_in (nodes_in t) ss (links_of es))
-        → l' ≡ flatten link_numbers (rows_in (nodes_in t) ss (links_of es)) ++ drop (3 * n) l
-        → Given t ss es x l (record { number = 0; place = 0; clocks = length ss; links = n; opened = q.opened; whole = q.whole }) x' l'
-    unfolding open_room whole_room
-    given_all h q x' l' p e d =
-        given_by _ x' l' λ o nodes states links many few c.
-        let rows : rows_in (nodes_in t) ss (links_of es) ≡ rows_of o = rw (nodes, states, links) (rows_are o o.sheet.links) in
-        let sums : q ≡ rooms_over (rows_of o) = e ∙ ap rooms_over rows in (
-          got o c,
-          rw (le-leb (4 * length o.table) (length x) (omega (arith, many)), le-leb (3 * length o.sheet.links) (length l) (omega (arith, few))),
-          λ i. record { number = 0; place = 0; clocks = many i; links = few i; opened = (sums i).opened; whole = (sums i).whole },
-          p ∙ ap₂ (λ (ys : List Node) (k : ℕ). flatten clock_numbers ys ++ drop (4 * k) x) nodes many,
-          d ∙ ap₂ (λ (rs : List Row) (k : ℕ). flatten link_numbers rs ++ drop (3 * k) l) rows few,
-        )
+-- ---- by what the code's reader found and left
+module _ (s : List ℕ) (f : Found) (t : List ℤ) (ss es : List ℕ) (h : FoundIn s f t ss es) where
+  pub found_sheet : (o : SheetRead) × (c : ℕ) × (read_sheet s ≡ got o c) × (found_of o ≡ f)
+  found_sheet = reading_got (read_sheet s) f h.told
+
+  pub found_few : (f.clocks ≤ clocks_most) × (f.links ≤ links_most)
+  found_few = let w = found_sheet in (clocks_few s h.bytes w.0 w.1 w.2 f w.3, links_few s h.bytes w.0 w.1 w.2 f w.3)
+
+  pub found_ready : Ready (take (per_node * f.clocks) t) (take f.clocks ss) (take (2 * f.links) es) f.links
+  found_ready = let w = found_sheet in ready s h.bytes w.0 w.1 w.2 f w.3 t ss es h.tabled
+
+  pub found_shows : (o : SheetRead) (c : ℕ) → read_sheet s ≡ got o c → Shows o (take (per_node * f.clocks) t) (take f.clocks ss) (take (2 * f.links) es)
+  found_shows o c e =
+      let told : reading_of (got o c) ≡ Ok f = ap reading_of (sym e) ∙ h.told in
+      let is : found_of o ≡ f = cc in
+      shows s h.bytes o c e f is t ss es h.tabled
+
+  -- what is given of tables that show the sheet is what working it out gives
+  pub found_given : (t' : List ℤ) (ss' es' : List ℕ) → ((o : SheetRead) (c : ℕ) → read_sheet s ≡ got o c → Shows o t' ss' es')
+      → (x x' l l' : List ℤ) (r : Result Totals Refusal) → Given t' ss' es' x l r x' l' → WorksOut s x l r x' l'
+  unfolding worked_of
+  found_given t' ss' es' shown x x' l l' r g =
+      let w = found_sheet in
+      let d = g w.0 w.1 (shown w.0 w.1 w.2) in
+      record { reply_is = rw w.2 d.0; clocks_are = rw w.2 d.1; links_are = rw w.2 d.2 }

@@ -18,7 +18,7 @@ use Rattle.sheet.specs.Sheet.{Link}
 use Rattle.sizing.specs.Rooms.{total, size_of_row}
 use Rattle.sizing.specs.WorkOut.{flatten}
 use Rattle.sizing.specs.Inner.Rows.{row_at, rows_in, rooms_over, rooms_with}
-use Rattle.reading.proofs.Tables.NodeTables.{map_more}
+use Rattle.reading.proofs.Sections.NodeTables.{map_more}
 use Rattle.sizing.proofs.LinkRows.{row_small, open_most}
 
 -- ---- sums, with one more
@@ -82,9 +82,9 @@ module _ (xs : List Node) (ss : List ℕ) (ls : List Link) where
     pub open_few : q.opened ≤ 3000000000 * i
     pub whole_few : q.whole ≤ 3000000000 * i
 
-  pub summed_none : Summed 0 (rooms_over [])
+  pub summed_none : (q : Rooms) → (q.opened ≡ 0) × (q.whole ≡ 0) → Summed 0 q
   unfolding total
-  summed_none = record { sums = refl; open_few = omega arith; whole_few = omega arith }
+  summed_none q h = record { sums = λ j. record { opened = h.0 j; whole = h.1 j }; open_few = omega (arith, h); whole_few = omega (arith, h) }
 
   -- the rows, with one more
   pub rows_more : (i : ℕ) (k : Link) (r : Row) → take (i + 1) ls ≡ take i ls ++ (k ∷ []) → r ≡ row_at xs ss k → rows_to (i + 1) ≡ rows_to i ++ (r ∷ [])

@@ -1,11 +1,13 @@
 -- "The listing program", its sheet, and the figures on whole sheets: what working them out gives, and what document 01 says.
-use Rattle.std.specs.Prelude.{List, [], ◌∷◌, ◌++◌, ℕ, zero, suc, ℤ, pos, neg_ℤ, replicate}
-use Rattle.sizing.specs.declared.Reply.{Reply}
+use Rattle.std.specs.Prelude.{List, [], ◌∷◌, ◌++◌, ℕ, zero, suc, ℤ, pos, neg_ℤ, replicate, Result, Ok, Err}
+use Rattle.reply.specs.declared.Refusal.{Refusal}
+use Rattle.reply.specs.Refusal.{refusal}
+use Rattle.sizing.specs.declared.Totals.{Totals}
 use Rattle.sizing.specs.WorkOut.{worked_of, reply_of, clocks_out, links_out}
 
 -- the reply, and what the two lent slices hold at the end
 pub record Answer : Type 0 where
-  pub reply : Reply
+  pub reply : Result Totals Refusal
   pub clocks : List ℤ
   pub links : List ℤ
 
@@ -24,7 +26,7 @@ answer_to s clocks links =
 abbrev pub accepted : ℕ → ℕ → ℕ → ℕ → List ℤ → List ℤ → Answer
 accepted clocks links opened whole cs ls =
     record {
-      reply = record { number = 0; place = 0; clocks = clocks; links = links; opened = opened; whole = whole };
+      reply = Ok (record { clocks = clocks; links = links; opened = opened; whole = whole });
       clocks = cs;
       links = ls;
     }
@@ -33,7 +35,7 @@ accepted clocks links opened whole cs ls =
 abbrev pub refused_at : ℕ → ℕ → ℕ → ℕ → Answer
 refused_at number place clocks links =
     record {
-      reply = record { number = number; place = place; clocks = 0; links = 0; opened = 0; whole = 0 };
+      reply = Err (refusal number place);
       clocks = zeros clocks;
       links = zeros links;
     }

@@ -1,11 +1,13 @@
 -- Working a sheet out: the reply, and what the two lent slices hold at the end.
-use Rattle.std.specs.Prelude.{◌≡◌, cond, List, [], ◌∷◌, ◌++◌, ℕ, ◌*◌, ℤ, pos, leb, length, drop}
+use Rattle.std.specs.Prelude.{◌≡◌, cond, List, [], ◌∷◌, ◌++◌, ℕ, ◌*◌, ℤ, pos, leb, length, drop, Result, Ok, Err}
 use Rattle.reply.specs.Numbers.{short_result}
 use Rattle.field.specs.Read.{Read, Read.got, Read.refused, bind}
 use Rattle.envelope.specs.declared.Node.{Node}
 use Rattle.link.specs.declared.Row.{Row}
 use Rattle.link.specs.Link.{verdict_number, size_in}
-use Rattle.sizing.specs.declared.Reply.{Reply}
+use Rattle.reply.specs.declared.Refusal.{Refusal}
+use Rattle.reply.specs.Refusal.{refusal}
+use Rattle.sizing.specs.declared.Totals.{Totals}
 use Rattle.sheet.specs.Reader.{read_sheet}
 use Rattle.sheet.specs.SheetRead.{SheetRead}
 use Rattle.sizing.specs.Rooms.{rows_of, open_room, whole_room}
@@ -20,22 +22,15 @@ room_for clocks links o c =
 unfoldable pub worked_of : List ℕ → ℕ → ℕ → Read SheetRead
 worked_of s clocks links = bind (read_sheet s) (room_for clocks links)
 
--- "A refusal returns number and place, every count and total 0"
-abbrev pub refusal_of : ℕ → ℕ → Reply
-refusal_of number place = record { number = number; place = place; clocks = 0; links = 0; opened = 0; whole = 0 }
+-- "both counts and both rooms"
+abbrev pub totals_of : SheetRead → Totals
+totals_of o =
+    record { clocks = length o.table; links = length o.sheet.links; opened = open_room o; whole = whole_room o }
 
--- "returning both counts and both rooms"
-abbrev pub reply_of : Read SheetRead → Reply
-reply_of (got o c) =
-    record {
-      number = 0;
-      place = 0;
-      clocks = length o.table;
-      links = length o.sheet.links;
-      opened = open_room o;
-      whole = whole_room o;
-    }
-reply_of (refused number place) = refusal_of number place
+-- "returning both counts and both rooms"; "A refusal returns number and place"
+abbrev pub reply_of : Read SheetRead → Result Totals Refusal
+reply_of (got o c) = Ok (totals_of o)
+reply_of (refused number place) = Err (refusal number place)
 
 -- "k, K, l, n per clock"
 abbrev pub clock_numbers : Node → List ℤ
@@ -60,7 +55,7 @@ links_out (got o c) t = flatten link_numbers (rows_of o) ++ drop (3 * length o.s
 links_out (refused number place) t = t
 
 -- the contract of `work_out`: the reply, and what the two lent slices hold at the end
-pub record WorksOut (s : List ℕ) (clocks links : List ℤ) (reply : Reply) (clocks_end links_end : List ℤ) : Type 0 where
+pub record WorksOut (s : List ℕ) (clocks links : List ℤ) (reply : Result Totals Refusal) (clocks_end links_end : List ℤ) : Type 0 where
   pub reply_is : reply ≡ reply_of (worked_of s (length clocks) (length links))
   pub clocks_are : clocks_end ≡ clocks_out (worked_of s (length clocks) (length links)) clocks
   pub links_are : links_end ≡ links_out (worked_of s (length clocks) (length links)) links

@@ -1,41 +1,117 @@
 // Works a sheet out: the links' rows from the tables that reading left, and both rooms.
 #![tactic(auto)]
 
-ghost use Rattle.std.specs.Prelude.{◌≡◌, [], ◌++◌, ℕ, ◌+◌, ◌*◌, ◌≤◌, ◌<◌, length, drop};
+ghost use Rattle.std.specs.Prelude.{◌≡◌, List, [], ◌++◌, ℕ, ◌+◌, ◌*◌, ◌≤◌, ◌<◌, length, drop};
 ghost use Rattle.std.proofs.lemmas.List.Edits.{sets};
 ghost use Rattle.link.specs.Link.{size_in};
-ghost use Rattle.expression.specs.Inner.Nodes.{per_node, HoldsNodes, nodes_in};
+ghost use Rattle.field.specs.Read.{Read.got};
+ghost use Rattle.expression.specs.Inner.Nodes.{nodes_in};
 ghost use Rattle.envelope.specs.Envelope.{Taken};
-ghost use Rattle.sheet.specs.Sheet.{clocks_most};
-ghost use Rattle.sizing.specs.WorkOut.{refusal_of, clock_numbers, link_numbers, flatten, WorksOut};
+ghost use Rattle.sheet.specs.Reader.{read_sheet};
+ghost use Rattle.sheet.specs.SheetRead.{SheetRead};
+ghost use Rattle.sizing.specs.WorkOut.{clock_numbers, link_numbers, flatten, WorksOut};
 ghost use Rattle.reading.specs.Inner.Sections.{links_of, link_in};
-ghost use Rattle.sizing.specs.Inner.Rows.{row_at, Ready, rows_in, rooms_over, rooms_with, Given};
+ghost use Rattle.sizing.specs.Inner.Rows.{row_at, Ready, FoundIn, Shows, rows_in, rooms_over, rooms_with, Given};
 
 use envelope::Node;
 use expression::{PER_NODE, entry};
 use link::{Row, judge};
-use reading::{Reading, read};
+use reading::{Found, Tables, read};
+use reply::{Cause, Refusal};
 
 // Numbers per clock, and per link, in the slices that callers lend.
 const PER_CLOCK: usize = 4;
 
 const PER_LINK: usize = 3;
 
-// The row of link i, whose ends are in `ends`.
-pub fn row(ends: &[u8], i: usize, clocks: &[i32], states: &[u8]) -> Row
-    requires { (n : ℕ) × (i < n) × Ready clocks.now states.now ends.now n }
-    ensures { result ≡ row_at (nodes_in clocks.now) states.now (link_in ends.now i) }
-{
-    let p = ends[2 * i] as usize;
-    let q = ends[2 * i + 1] as usize;
-    let producer = entry(clocks, p);
-    let consumer = entry(clocks, q);
-    let verdict = judge(producer.envelope, consumer.envelope);
-    Row {
-        producer: p,
-        consumer: q,
-        state: link::state_of(states[p], states[q]),
-        verdict,
+// A sheet that was read: its clocks' nodes and states, and its links' ends, in tables that are lent.
+#[derive(Clone, Copy)]
+pub struct Rows<'a> {
+    pub nodes: &'a [i32],
+    pub states: &'a [u8],
+    pub ends: &'a [u8],
+    pub links: usize,
+    pub ghost ready: { Ready nodes.now states.now ends.now links },
+}
+
+impl<'a> Rows<'a> {
+    // What was found, as it stands in the tables.
+    pub fn of(tables: &'a Tables, found: Found) -> Rows<'a>
+        requires { (s : List ℕ) × FoundIn s found tables.now.nodes tables.now.states tables.now.ends }
+        ensures { (s : List ℕ) → FoundIn s found tables.now.nodes tables.now.states tables.now.ends
+            → (o : SheetRead) (c : ℕ) → read_sheet s ≡ got o c → Shows o result.nodes.now result.states.now result.ends.now }
+    {
+        Rows {
+            nodes: &tables.nodes[..PER_NODE * found.clocks],
+            states: &tables.states[..found.clocks],
+            ends: &tables.ends[..2 * found.links],
+            links: found.links,
+        }
+    }
+
+    // The row of link i.
+    pub fn row(&self, i: usize) -> Row
+        requires { i < self.now.links }
+        ensures { result ≡ row_at (nodes_in self.now.nodes.now) self.now.states.now (link_in self.now.ends.now i) }
+    {
+        let p = self.ends[2 * i] as usize;
+        let q = self.ends[2 * i + 1] as usize;
+        let producer = entry(self.nodes, p);
+        let consumer = entry(self.nodes, q);
+        let verdict = judge(producer.envelope, consumer.envelope);
+        Row {
+            producer: p,
+            consumer: q,
+            state: link::state_of(self.states[p], self.states[q]),
+            verdict,
+        }
+    }
+
+    // The numbers of the clocks are left in `list`.
+    fn fill_clocks(&self, list: &mut [i64])
+        requires { 4 * length self.now.states.now ≤ length list.old }
+        ensures { list.new ≡ flatten clock_numbers (nodes_in self.now.nodes.now) ++ drop (4 * length self.now.states.now) list.old }
+    {
+        for i in 0..self.states.len() {
+            store_clock(entry(self.nodes, i), list, i);
+        }
+    }
+
+    // The rows of the links are left in `list`.
+    fn fill_links(&self, list: &mut [i64]) -> Rooms
+        requires { 3 * self.now.links ≤ length list.old }
+        ensures rooms { result ≡ rooms_over (rows_in (nodes_in self.now.nodes.now) self.now.states.now (links_of self.now.ends.now)) }
+        ensures rows { list.new ≡ flatten link_numbers (rows_in (nodes_in self.now.nodes.now) self.now.states.now (links_of self.now.ends.now)) ++ drop (3 * self.now.links) list.old }
+    {
+        let mut rooms = Rooms::default();
+        for i in 0..self.links {
+            let r = self.row(i);
+            store_row(r, list, i);
+            rooms = rooms.plus(r);
+        }
+        rooms
+    }
+
+    // What the sheet gives: nothing is written unless both slices are long enough.
+    fn give(&self, clocks: &mut [i64], links: &mut [i64]) -> Result<Totals, Refusal>
+        ensures { Given self.now.nodes.now self.now.states.now self.now.ends.now clocks.old links.old result clocks.new links.new }
+    {
+        let m = self.states.len();
+        let n = self.links;
+        if clocks.len() < PER_CLOCK * m || links.len() < PER_LINK * n {
+            return Err(Refusal {
+                cause: Cause::ShortResult,
+                place: 0,
+            });
+        }
+        self.fill_clocks(clocks);
+        let rooms = self.fill_links(links);
+        Ok(Totals {
+            clocks: m,
+            links: n,
+            opened: rooms.opened,
+            whole: rooms.whole,
+        })
     }
 }
 
@@ -56,19 +132,7 @@ fn store_clock(x: Node, list: &mut [i64], i: usize)
     list[at + 3] = n;
 }
 
-// The numbers of m clocks are left in `list`.
-fn fill_clocks(table: &[i32], m: usize, list: &mut [i64])
-    requires { HoldsNodes table.now × (length table.now ≡ per_node * m) × (m ≤ clocks_most) × (4 * m ≤ length list.old) }
-    ensures { list.new ≡ flatten clock_numbers (nodes_in table.now) ++ drop (4 * m) list.old }
-{
-    let mut i: usize = 0;
-    while i < m {
-        store_clock(entry(table, i), list, i);
-        i += 1;
-    }
-}
-
-// Verdict, size and state, stored for link i.
+// Verdict, size and state, stored for link i. Not one function with `store_clock`: what bounds the numbers differs.
 fn store_row(r: Row, list: &mut [i64], i: usize)
     requires { (3 * i + 2 < length list.old) × (size_in r.verdict ≤ 3000000000) }
     ensures { list.new ≡ sets list.old (3 * i) (link_numbers r) }
@@ -84,22 +148,13 @@ fn store_row(r: Row, list: &mut [i64], i: usize)
 }
 
 // The sums of sizes over accepted links: open ones, and all.
-#[derive(Clone, Copy)]
+#[derive(Clone, Copy, Default)]
 pub struct Rooms {
     pub opened: u64,
     pub whole: u64,
 }
 
 impl Rooms {
-    pub fn none() -> Rooms
-        ensures { result ≡ rooms_over [] }
-    {
-        Rooms {
-            opened: 0,
-            whole: 0,
-        }
-    }
-
     // With one link more.
     pub fn plus(self, r: Row) -> Rooms
         requires { (size_in r.verdict ≤ 3000000000) × (self.opened ≤ 768000000000) × (self.whole ≤ 768000000000) }
@@ -113,100 +168,20 @@ impl Rooms {
     }
 }
 
-// The rows of n links, whose ends are in `ends`, are left in `list`.
-fn fill_links(clocks: &[i32], states: &[u8], ends: &[u8], n: usize, list: &mut [i64]) -> Rooms
-    requires { Ready clocks.now states.now ends.now n × (3 * n ≤ length list.old) }
-    ensures rooms { result ≡ rooms_over (rows_in (nodes_in clocks.now) states.now (links_of ends.now)) }
-    ensures rows { list.new ≡ flatten link_numbers (rows_in (nodes_in clocks.now) states.now (links_of ends.now)) ++ drop (3 * n) list.old }
-{
-    let mut i: usize = 0;
-    let mut rooms = Rooms::none();
-    while i < n {
-        let r = row(ends, i, clocks, states);
-        store_row(r, list, i);
-        rooms = rooms.plus(r);
-        i += 1;
-    }
-    rooms
-}
-
-// What working a sheet out answers: a refusal's number and place, or 0 and 0, both counts and both rooms.
-#[derive(Clone, Copy)]
-pub struct Reply {
-    pub number: u8,
-    pub place: usize,
+// What a sheet comes to: both counts and both rooms.
+#[derive(Clone, Copy, Debug, PartialEq, Eq)]
+pub struct Totals {
     pub clocks: usize,
     pub links: usize,
     pub opened: u64,
     pub whole: u64,
 }
 
-fn refuse(number: u8, place: usize) -> Reply
-    ensures { result ≡ refusal_of number place }
-{
-    Reply {
-        number,
-        place,
-        clocks: 0,
-        links: 0,
-        opened: 0,
-        whole: 0,
-    }
-}
-
-// What a sheet gives that was read into the tables: nothing is written unless both slices are long enough.
-fn give(
-    table: &[i32],
-    states: &[u8],
-    ends: &[u8],
-    n: usize,
-    clocks: &mut [i64],
-    links: &mut [i64],
-) -> Reply
-    requires { Ready table.now states.now ends.now n }
-    ensures { Given table.now states.now ends.now clocks.old links.old result clocks.new links.new }
-{
-    let m = states.len();
-    if clocks.len() < PER_CLOCK * m {
-        return refuse(reply::SHORT_RESULT, 0);
-    }
-    if links.len() < PER_LINK * n {
-        return refuse(reply::SHORT_RESULT, 0);
-    }
-    fill_clocks(table, m, clocks);
-    let rooms = fill_links(table, states, ends, n, links);
-    Reply {
-        number: 0,
-        place: 0,
-        clocks: m,
-        links: n,
-        opened: rooms.opened,
-        whole: rooms.whole,
-    }
-}
-
 // Works a sheet out: k, K, l and n of each clock go to `clocks`, verdict, size and state of each link to `links`.
-pub fn work_out(sheet: &[u8], clocks: &mut [i64], links: &mut [i64]) -> Reply
+pub fn work_out(sheet: &[u8], clocks: &mut [i64], links: &mut [i64]) -> Result<Totals, Refusal>
     ensures { WorksOut sheet.now clocks.old links.old result clocks.new links.new }
 {
-    let mut table = [0i32; 512];
-    let mut states = [0u8; 128];
-    let mut ends = [0u8; 512];
-    match read(sheet, &mut table, &mut states, &mut ends) {
-        Reading::Refused(number, place) => refuse(number, place),
-        Reading::Got(f) => {
-            let m = f.clocks;
-            let n = f.links;
-            let nodes = PER_NODE * m;
-            let pairs = 2 * n;
-            give(
-                &table[..nodes],
-                &states[..m],
-                &ends[..pairs],
-                n,
-                clocks,
-                links,
-            )
-        }
-    }
+    let mut tables = Tables::empty();
+    let found = read(sheet, &mut tables)?;
+    Rows::of(&tables, found).give(clocks, links)
 }

@@ -7,9 +7,6 @@ mod input;
 mod outcome;
 mod reason;
 
-pub use argument::{
-    has_arguments, is_given, natural_argument, path_argument, path_text, whole_argument,
-};
-pub use complaint::{Streams, complain, complain_of_failure, print};
-pub use input::{Input, read_file, read_whole, sheet_space};
-pub use outcome::{print_closed, print_refused};
+pub use argument::{is_given, name_text};
+pub use complaint::Streams;
+pub use input::{read_whole, sheet_space};

@@ -1,11 +1,12 @@
 // The system's words for a failure.
 ghost use Rattle.std.specs.Prelude.{◌≤◌, length};
 
-use line::put_bytes;
+use line::Writer;
 use std::fmt::Write;
 use std::{fmt, io};
 
 // What std prints of a failure: the system's words, and of one that has a number then ` (os error NUMBER)`.
+// The length stands beside the buffer since no heap is used.
 #[derive(Drop)]
 pub struct Reason {
     text: [u8; 96],
@@ -14,7 +15,12 @@ pub struct Reason {
 
 impl Write for Reason {
     fn write_str(&mut self, s: &str) -> fmt::Result {
-        self.bytes = put_bytes(&mut self.text, self.bytes, s.as_bytes());
+        let mut out = Writer {
+            bytes: &mut self.text,
+            at: self.bytes,
+        };
+        out.put_bytes(s.as_bytes());
+        self.bytes = out.at;
         Ok(())
     }
 }
@@ -40,12 +46,11 @@ fn words_len(text: &[u8], bytes: usize) -> usize
     ensures { result ≤ length text.now }
 {
     let all = bytes.min(text.len());
-    let mut n = all;
-    while 1 < n {
-        n -= 1;
-        if text[n] == b'(' {
-            return n - 1;
-        }
-    }
-    all
+    let Some(past_the_first) = text.get(1..all) else {
+        return all;
+    };
+    past_the_first
+        .iter()
+        .rposition(|b| *b == b'(')
+        .unwrap_or(all)
 }

@@ -3,34 +3,14 @@
 use mathlib.Core.Path.{◌≡◌, refl, ap₂, subst⁻¹, ◌∙◌}
 use Prim.Native.Nat.{ℕ, ◌^◌, ◌<◌}
 use lib.IntN.{ℤ, pos}
-use lib.Signed.{quot_z, rem_z, mag, mag_rem}
+use lib.Signed.{mag}
 use mir.Syntax.{w64}
 use mir.Val.{SFits, to_z, of_z}
 use mir.Facts.{to_z-of_z}
-use mir.ValLaws.{sfits_le}
-use Rattle.whole.proofs.Rounding.{quot_fits}
 
 -- the bits of d, which is below 2 ^ 63, read as signed
 pub held : (d : ℕ) → d < 2 ^ 63 → to_z w64 d ≡ pos d
 held d h = to_z-of_z {w = w64} {z = pos d} (record { sfits = h })
-
-pub quot_held : (x : ℤ) (d : ℕ) → SFits w64 x → d < 2 ^ 63 → quot_z (to_z w64 (of_z w64 x)) (to_z w64 d) ≡ quot_z x (pos d)
-quot_held x d f h = ap₂ quot_z (to_z-of_z f) (held d h)
-
-pub rem_held : (x : ℤ) (d : ℕ) → SFits w64 x → d < 2 ^ 63 → rem_z (to_z w64 (of_z w64 x)) (to_z w64 d) ≡ rem_z x (pos d)
-rem_held x d f h = ap₂ rem_z (to_z-of_z f) (held d h)
-
--- what `x / e` and `x % e` hold, with e a copy of d as a signed number
-module _ (x : ℤ) (d : ℕ) (f : SFits w64 x) (h : d < 2 ^ 63) where
-  pub quot_holds : SFits w64 (quot_z (to_z w64 (of_z w64 x)) (to_z w64 d))
-  quot_holds = subst⁻¹ (λ (z : ℤ). SFits w64 z) (quot_held x d f h) (quot_fits x d f)
-
-  pub quot_back : to_z w64 (of_z w64 (quot_z (to_z w64 (of_z w64 x)) (to_z w64 d))) ≡ quot_z x (pos d)
-  quot_back = to_z-of_z quot_holds ∙ quot_held x d f h
-
-  pub rem_back : to_z w64 (of_z w64 (rem_z (to_z w64 (of_z w64 x)) (to_z w64 d))) ≡ rem_z x (pos d)
-  rem_back =
-      to_z-of_z (subst⁻¹ (λ (z : ℤ). SFits w64 z) (rem_held x d f h) (sfits_le (mag_rem x (pos d)) f)) ∙ rem_held x d f h
 
 -- ---- an operation on signed numbers of which the machine has u and v, for x and y. A proof goes through an expression by these two:
 -- `back` of each operand is the equation of the operation above it

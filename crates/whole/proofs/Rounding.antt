@@ -1,14 +1,13 @@
--- Laws of division rounded down and up, and how the machine's quotient, which is rounded toward 0, gives both.
+-- Laws of division rounded down and up.
 -- Assumes nothing.
-use mathlib.Core.Path.{◌≡◌, sym, ap, ◌∙◌}
-use Prim.Native.Nat.{ℕ, zero, suc, ◌+◌, ◌*◌, ◌/◌, ◌%◌, ◌≤◌, ◌<◌}
-use native.Mathlib.Nat.{div-add-mod', mod-lt, suc-mul, add-mul, mul-le-mul_right, lt_of_mul-lt-mul_right, zero-mul, one-mul, div-le_self, zero-div}
+use mathlib.Core.Path.{◌≡◌, ap}
+use Prim.Native.Nat.{ℕ, suc, ◌+◌, ◌*◌, ◌/◌, ◌≤◌, ◌<◌}
+use native.Mathlib.Nat.{div-add-mod', mod-lt, suc-mul, add-mul, lt_of_mul-lt-mul_right, div-le_self}
 use native.Mathlib.Omega.{arith}
-use lib.IntN.{ℤ, pos, negsuc, neg_ℤ, ◌+ℤ◌, ◌-ℤ◌, ◌*ℤ◌}
-use lib.Signed.{◌≤ℤ◌, ◌<ℤ◌, lt_z, quot_z, rem_z}
+use lib.IntN.{ℤ, pos, negsuc, neg_ℤ, ◌+ℤ◌, ◌*ℤ◌}
+use lib.Signed.{◌≤ℤ◌, ◌<ℤ◌}
 use mir.Syntax.{Width}
 use mir.Val.{SFits}
-use mathlib.Core.Bool.{true, false}
 use Rattle.whole.specs.Rounding.{floor_div, ceil_div}
 use Rattle.whole.proofs.Bridge.{up, down, sum, up_neg, down_neg, up_mul, down_mul, orders, signed}
 
@@ -20,14 +19,6 @@ next a b d h =
     let q : a * d < suc b * d = omega (arith, suc-mul b d) in
     let r : a < suc b = lt_of_mul-lt-mul_right d q in
     omega arith
-
-pub mul_mono : {x y : ℤ} (d : ℕ) → x ≤ℤ y → (x *ℤ pos d) ≤ℤ (y *ℤ pos d)
-mul_mono {x} {y} d h =
-    let p : (up x + down y) * d ≤ (up y + down x) * d = mul-le-mul_right d (≤ℤ-reads' h) in
-    omega (arith, orders, p, add-mul (up x) (down y) d, add-mul (up y) (down x) d, up_mul x d, down_mul x d, up_mul y d, down_mul y d)
-  where
-    ≤ℤ-reads' : x ≤ℤ y → up x + down y ≤ up y + down x
-    ≤ℤ-reads' h = omega (arith, orders)
 
 -- x * d < y * d + d only where x ≤ y
 pub mul_next : (x y : ℤ) (d : ℕ) → (x *ℤ pos d) <ℤ ((y *ℤ pos d) +ℤ pos d) → x ≤ℤ y
@@ -77,73 +68,7 @@ pub ceil_only : (x q : ℤ) (d : ℕ) → 0 < d → x ≤ℤ (q *ℤ pos d) → 
 ceil_only x q d h p r =
     omega (arith, orders, ceil_least x q d h p, mul_next q (ceil_div x d) d (omega (arith, orders, ceil_high x d h, sum x (pos d), sum (ceil_div x d *ℤ pos d) (pos d))))
 
--- ---- by the machine's quotient, which is rounded toward 0, and its remainder, which has the sign of x
-
-quot_up : (x : ℤ) (d : ℕ) → up x ≡ up (quot_z x (pos d)) * d + up (rem_z x (pos d))
-quot_up (pos a) d = sym (div-add-mod' a d)
-quot_up (negsuc a) d = omega (arith, ap (λ (n : ℕ). n * d) (up_neg (pos (suc a / d))), up_neg (pos (suc a % d)), zero-mul d)
-
-quot_down : (x : ℤ) (d : ℕ) → down x ≡ down (quot_z x (pos d)) * d + down (rem_z x (pos d))
-quot_down (pos a) d = omega (arith, zero-mul d)
-quot_down (negsuc a) d =
-    omega (arith, ap (λ (n : ℕ). n * d) (down_neg (pos (suc a / d))), down_neg (pos (suc a % d)), div-add-mod' (suc a) d)
-
-rem_less : (x : ℤ) (d : ℕ) → 0 < d → up (rem_z x (pos d)) + down (rem_z x (pos d)) < d
-rem_less (pos a) d h = omega (arith, mod-lt a h)
-rem_less (negsuc a) d h = omega (arith, mod-lt (suc a) h, up_neg (pos (suc a % d)), down_neg (pos (suc a % d)))
-
-pub quot_fits : {w : Width} (x : ℤ) (d : ℕ) → SFits w x → SFits w (quot_z x (pos d))
-quot_fits (pos a) d h = omega (arith, signed, div-le_self a d)
-quot_fits (negsuc a) d h = omega (arith, signed, up_neg (pos (suc a / d)), down_neg (pos (suc a / d)), div-le_self (suc a) d)
-
-pub floor_by_quot : (x : ℤ) (d : ℕ) → 0 < d → lt_z (rem_z x (pos d)) (pos 0) ≡ false → quot_z x (pos d) ≡ floor_div x d
-floor_by_quot x d h e =
-    let q : ℤ = quot_z x (pos d) in
-    floor_only x q d h
-    (omega (arith, signed, up_mul q d, down_mul q d, quot_up x d, quot_down x d, rem_less x d h))
-    (omega (arith, signed, sum (q *ℤ pos d) (pos d), up_mul q d, down_mul q d, quot_up x d, quot_down x d, rem_less x d h))
-
+-- what fits a type, divided, fits it
 pub floor_fits : {w : Width} (x : ℤ) (d : ℕ) → SFits w x → SFits w (floor_div x d)
 floor_fits (pos a) d h = omega (arith, signed, div-le_self a d)
 floor_fits (negsuc a) d h = omega (arith, signed, div-le_self a d)
-
--- the product by d of one more and of one less
-mul_step : (q : ℤ) (d : ℕ) → ((q +ℤ pos 1) *ℤ pos d) ≡ ((q *ℤ pos d) +ℤ pos d)
-mul_step q d =
-    let s : (up (q +ℤ pos 1) + down q) * d ≡ (up q + 1 + down (q +ℤ pos 1)) * d = ap (λ (n : ℕ). n * d) (omega (arith, sum q (pos 1))) in
-    omega (arith, orders, up_mul (q +ℤ pos 1) d, down_mul (q +ℤ pos 1) d, up_mul q d, down_mul q d, sum (q *ℤ pos d) (pos d), add-mul (up (q +ℤ pos 1)) (down q) d, add-mul (up q + 1) (down (q +ℤ pos 1)) d, add-mul (up q) 1 d, one-mul d)
-
-mul_back : (q : ℤ) (d : ℕ) → ((q -ℤ pos 1) *ℤ pos d) +ℤ pos d ≡ (q *ℤ pos d)
-mul_back q d =
-    let e : (q -ℤ pos 1) +ℤ pos 1 ≡ q = omega (arith, orders, sum (q -ℤ pos 1) (pos 1), sum q (negsuc 0)) in
-    sym (mul_step (q -ℤ pos 1) d) ∙ ap (λ (z : ℤ). z *ℤ pos d) e
-
-pub floor_by_quot_less : (x : ℤ) (d : ℕ) → 0 < d → lt_z (rem_z x (pos d)) (pos 0) ≡ true → quot_z x (pos d) -ℤ pos 1 ≡ floor_div x d
-floor_by_quot_less x d h e =
-    let q : ℤ = quot_z x (pos d) in
-    let p : ℤ = (q -ℤ pos 1) *ℤ pos d in
-    let m : up p + d + down (q *ℤ pos d) ≡ up (q *ℤ pos d) + down p = omega (arith, sum p (pos d), ap up (mul_back q d), ap down (mul_back q d)) in
-    floor_only x (q -ℤ pos 1) d h
-    (omega (arith, signed, m, up_mul q d, down_mul q d, quot_up x d, quot_down x d, rem_less x d h))
-    (omega (arith, signed, m, sum p (pos d), up_mul q d, down_mul q d, quot_up x d, quot_down x d, rem_less x d h))
-
-pub ceil_by_quot : (x : ℤ) (d : ℕ) → 0 < d → lt_z (pos 0) (rem_z x (pos d)) ≡ false → quot_z x (pos d) ≡ ceil_div x d
-ceil_by_quot x d h e =
-    let q : ℤ = quot_z x (pos d) in
-    ceil_only x q d h
-    (omega (arith, signed, up_mul q d, down_mul q d, quot_up x d, quot_down x d, rem_less x d h))
-    (omega (arith, signed, sum x (pos d), up_mul q d, down_mul q d, quot_up x d, quot_down x d, rem_less x d h))
-
-pub ceil_by_quot_more : (x : ℤ) (d : ℕ) → 0 < d → lt_z (pos 0) (rem_z x (pos d)) ≡ true → quot_z x (pos d) +ℤ pos 1 ≡ ceil_div x d
-ceil_by_quot_more x d h e =
-    let q : ℤ = quot_z x (pos d) in
-    let p : ℤ = (q +ℤ pos 1) *ℤ pos d in
-    let m : up p + down (q *ℤ pos d) ≡ up (q *ℤ pos d) + d + down p = omega (arith, sum (q *ℤ pos d) (pos d), ap up (mul_step q d), ap down (mul_step q d)) in
-    ceil_only x (q +ℤ pos 1) d h
-    (omega (arith, signed, m, up_mul q d, down_mul q d, quot_up x d, quot_down x d, rem_less x d h))
-    (omega (arith, signed, m, sum x (pos d), up_mul q d, down_mul q d, quot_up x d, quot_down x d, rem_less x d h))
-
-pub ceil_fits : {w : Width} (x : ℤ) (d : ℕ) → SFits w x → SFits w (ceil_div x d)
-ceil_fits (pos zero) d h = omega (arith, signed, zero-div d, up_neg (pos (0 / d)), down_neg (pos (0 / d)))
-ceil_fits (pos (suc a)) d h = omega (arith, signed, div-le_self a d)
-ceil_fits (negsuc a) d h = omega (arith, signed, up_neg (pos (suc a / d)), down_neg (pos (suc a / d)), div-le_self (suc a) d)

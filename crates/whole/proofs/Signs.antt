@@ -1,16 +1,11 @@
--- A number's sign, as the machine finds it, and -1 - z, which is nearer to 0 than -z: the least number has no opposite. Assumes nothing.
-use mathlib.Core.Path.{◌≡◌, refl, sym, ◌∙◌, subst⁻¹}
+-- A number's sign, as the machine finds it. Assumes nothing.
+use mathlib.Core.Path.{◌≡◌, refl}
 use mathlib.Core.Bool.{true, false}
-use Prim.Native.Nat.{ℕ, ◌<◌, ◌^◌}
+use Prim.Native.Nat.{ℕ}
 use native.Mathlib.Omega.{arith}
-use lib.IntN.{ℤ, pos, negsuc, nat_abs, ◌-ℤ◌}
-use lib.Signed.{lt_z, non_neg}
-use lib.Dec.{T}
-use mir.Syntax.{w64}
-use mir.Val.{Fits, SFits, to_z, of_z}
-use mir.Facts.{to_z-of_z}
-use Rattle.whole.proofs.Bridge.{diff, whole_ext, lt_z_true, lt_z_false}
-use Rattle.whole.proofs.Machine.{held, fits_by, back_by}
+use lib.IntN.{ℤ, pos, negsuc}
+use lib.Signed.{lt_z}
+use Rattle.whole.proofs.Bridge.{lt_z_true, lt_z_false}
 
 -- what a test against 0 tells of a number: how many steps it is below -1, or above 0
 pub record Below (z : ℤ) : Type 0 where
@@ -28,42 +23,3 @@ pub record Above (z : ℤ) : Type 0 where
 pub above : (z : ℤ) → lt_z z (pos 0) ≡ false → Above z
 above (pos n) t = record { steps = n; is = refl }
 above (negsuc m) t = absurd (omega (arith, lt_z_false (negsuc m) (pos 0) t))
-
--- ---- -1 - z, where the machine has u for z, and y is the result
-pub record Turned (u y : ℤ) : Type 0 where
-  pub holds : SFits w64 (negsuc 0 -ℤ u)
-  pub back : to_z w64 (of_z w64 (negsuc 0 -ℤ u)) ≡ y
-
-turned : {u z y : ℤ} → u ≡ z → negsuc 0 -ℤ z ≡ y → SFits w64 y → Turned u y
-turned e d f =
-    let fits = subst⁻¹ (λ (x : ℤ). SFits w64 x) d f in
-    record { holds = fits_by ◌-ℤ◌ {u = negsuc 0} {x = negsuc 0} refl e fits; back = back_by ◌-ℤ◌ {u = negsuc 0} {x = negsuc 0} refl e fits ∙ d }
-
--- of a natural
-pub opposite : (m : ℕ) → m < 2 ^ 63 → Turned (to_z w64 m) (negsuc m)
-opposite m h = turned (held m h) (whole_ext (omega (arith, diff (negsuc 0) (pos m)))) (record { sfits = h })
-
--- of a number below 0
-pub record Nearer (z : ℤ) : Type 0 where
-  pub steps : ℕ
-  pub is : z ≡ negsuc steps
-  pub small : steps < 2 ^ 63
-  pub turned : Turned (to_z w64 (of_z w64 z)) (pos steps)
-
-pub nearer : (z : ℤ) → SFits w64 z → lt_z (to_z w64 (of_z w64 z)) (pos 0) ≡ true → Nearer z
-nearer z f t =
-    let b = below _ t in
-    let m = b.steps in
-    let is : z ≡ negsuc m = sym (to_z-of_z f) ∙ b.is in
-    let small : m < 2 ^ 63 = (rw is at f).sfits in
-    record { steps = m; is = is; small = small; turned = turned b.is (whole_ext (omega (arith, diff (negsuc 0) (negsuc m)))) (record { sfits = small }) }
-
--- ---- a number that is not negative, cast to one without a sign
-pub cast_fits : {y : ℤ} {m : ℕ} → y ≡ pos m → m < 2 ^ 63 → T (non_neg y) × Fits w64 (nat_abs y)
-cast_fits e h = subst⁻¹ (λ (y : ℤ). T (non_neg y) × Fits w64 (nat_abs y)) e (tt, record { fits = omega arith })
-
-pub cast_above : (z : ℤ) → SFits w64 z → lt_z (to_z w64 (of_z w64 z)) (pos 0) ≡ false → T (non_neg (to_z w64 (of_z w64 z))) × Fits w64 (nat_abs (to_z w64 (of_z w64 z)))
-cast_above z f t =
-    let b = above _ t in
-    let small : b.steps < 2 ^ 63 = (rw (sym (to_z-of_z f) ∙ b.is) at f).sfits in
-    cast_fits b.is small

@@ -11,41 +11,35 @@ pub fn floor_div(x: i64, d: u64) -> i64
     requires { (0 < d) × (d < 2 ^ 63) }
     ensures { result ≡ floor_div x d }
 {
-    let e = d as i64;
-    let q = x / e;
-    if x % e < 0 { q - 1 } else { q }
+    x.div_euclid(d as i64)
 }
 
-// x divided by d, rounded up, toward plus infinity.
+// x divided by d, rounded up, toward plus infinity. The library has no such method of `i64`, and -x may overflow.
 pub fn ceil_div(x: i64, d: u64) -> i64
     requires { (0 < d) × (d < 2 ^ 63) }
     ensures { result ≡ ceil_div x d }
 {
     let e = d as i64;
-    let q = x / e;
-    if 0 < x % e { q + 1 } else { q }
+    if 0 < x { (x - 1) / e + 1 } else { x / e }
 }
 
 pub fn larger_of(x: i64, y: i64) -> i64
     ensures { result ≡ larger x y }
 {
-    if x < y { y } else { x }
+    x.max(y)
 }
 
 pub fn smaller_of(x: i64, y: i64) -> i64
     ensures { result ≡ smaller x y }
 {
-    if x < y { x } else { y }
+    x.min(y)
 }
 
-// How far z is from 0: one step nearer first, since the least number has no opposite.
+// How far z is from 0.
 pub fn magnitude(z: i64) -> u64
     ensures { result ≡ nat_abs z }
 {
-    if z < 0 {
-        return (-1 - z) as u64 + 1;
-    }
-    z as u64
+    z.unsigned_abs()
 }
 
 // The greatest common divisor of a and b, by Euclid's remainders.
@@ -55,9 +49,7 @@ pub fn gcd(a: u64, b: u64) -> u64
     let mut x = a;
     let mut y = b;
     while y != 0 {
-        let z = x % y;
-        x = y;
-        y = z;
+        (x, y) = (y, x % y);
     }
     x
 }

@@ -1,3 +1,4 @@
+pub mod Refusals
 pub mod Spans
 pub mod BitCounts
 pub mod Nodes

@@ -4,16 +4,15 @@
 ghost use Rattle.std.specs.Prelude.{◌≡◌, ◌-◌, ◌*◌, ◌≤◌, ◌<◌, pos, ◌-ℤ◌, length, take, drop};
 ghost use Rattle.envelope.specs.Word.{bit_at, ones_in, word_of};
 ghost use Rattle.word.specs.Inner.Span.{including_of, span_of};
-ghost use Rattle.field.specs.Field.{field_of};
+ghost use Rattle.field.specs.Field.{read_of};
 ghost use Rattle.field.specs.Read.{mapped};
-ghost use Rattle.expression.specs.Reader.{value_of};
 ghost use Rattle.expression.specs.Evaluate.{word_node};
 ghost use Rattle.sheet.specs.Reader.{bits_at, word_at};
 ghost use Rattle.word.specs.Inner.Bits.{word_bits};
 
 use envelope::{Envelope, Node};
-use expression::Value;
-use field::{Cursor, Field};
+use field::{Cursor, Read};
+use reply::Cause;
 
 // The longest prefix and the longest period.
 pub const BITS_MOST: usize = 64;
@@ -34,7 +33,7 @@ pub struct Span {
 }
 
 impl Span {
-    // With one number more, after j others.
+    // With one number more, after j others: the caller counts j in any case, so an Option would say its 0 twice.
     fn including(self, x: i64, j: u64) -> Span
         ensures { result ≡ including_of self x j }
     {
@@ -54,14 +53,12 @@ fn offset_span(bits: &[u8], l: u64, n: u64) -> Span
     ensures { result ≡ span_of (bit_at bits.now) l n (length bits.now) }
 {
     let mut s = Span { k: 0, K: 0 };
-    let mut t: usize = 0;
     let mut j: u64 = 0;
-    while t < bits.len() {
-        if bits[t] == 1 {
+    for (t, b) in bits.iter().enumerate() {
+        if *b == 1 {
             s = s.including(offset(n, t as u64, l, j), j);
             j += 1;
         }
-        t += 1;
     }
     s
 }
@@ -81,55 +78,40 @@ fn envelope_of(bits: &[u8], prefix: usize, ones: u64) -> Envelope
 }
 
 // n bits: how many of them are 1.
-fn bits(start: Cursor, s: &[u8], n: usize) -> Field
-    ensures { field_of result ≡ mapped ones_in (bits_at n s.now start.at) }
+fn bits(start: Cursor, s: &[u8], n: usize) -> Read<usize>
+    ensures { read_of result ≡ mapped ones_in (bits_at n s.now start.at) }
 {
     let mut c = start;
     let mut ones: usize = 0;
-    let mut left = n;
-    while 0 < left {
-        let f = c.within(s, 1, 0, 2, reply::UNKNOWN);
-        let Field::Got(b, next) = f else {
-            return f;
-        };
-        ones = ones + b;
+    for _ in 0..n {
+        let (b, next) = c.within(s, 1, 0, 2, Cause::Unknown)?;
+        ones += b;
         c = next;
-        left -= 1;
     }
-    Field::Got(ones, c)
+    Ok((ones, c))
 }
 
 // The bits of a word: its prefix, then its period.
-fn word_bits(start: Cursor, s: &[u8], prefix: usize, period: usize) -> Value
+#[tactic(auto, using(crate::proofs::BitCounts::prefix_refused, crate::proofs::BitCounts::period_refused))]
+fn word_bits(start: Cursor, s: &[u8], prefix: usize, period: usize) -> Read<Node>
     requires { (prefix ≤ 64) × (period ≤ 64) × (start.at ≤ length s.now) }
-    ensures { value_of result ≡ word_bits prefix period s.now start.at }
+    ensures { read_of result ≡ word_bits prefix period s.now start.at }
 {
-    match bits(start, s, prefix) {
-        Field::Refused(number, place) => Value::Refused(number, place),
-        Field::Got(_, c) => match bits(c, s, period) {
-            Field::Refused(number, place) => Value::Refused(number, place),
-            Field::Got(ones, d) => {
-                if ones == 0 {
-                    return Value::Refused(reply::NO_ONE, c.at);
-                }
-                let from = start.at;
-                let to = d.at;
-                let envelope = envelope_of(&s[from..to], prefix, ones as u64);
-                Value::Got(Node { envelope }, d)
-            }
-        },
+    let (_, c) = bits(start, s, prefix)?;
+    let (ones, d) = bits(c, s, period)?;
+    if ones == 0 {
+        return Err(c.refusal(Cause::NoOne));
     }
+    let envelope = envelope_of(&s[start.at..d.at], prefix, ones as u64);
+    Ok((Node { envelope }, d))
 }
 
 // A word: its node.
-pub fn word(start: Cursor, s: &[u8]) -> Value
-    ensures { value_of result ≡ mapped word_node (word_at s.now start.at) }
+#[tactic(auto, using(crate::proofs::Nodes::word_is))]
+pub fn word(start: Cursor, s: &[u8]) -> Read<Node>
+    ensures { read_of result ≡ mapped word_node (word_at s.now start.at) }
 {
-    match start.within(s, 1, 0, BITS_MOST + 1, reply::BEYOND) {
-        Field::Refused(number, place) => Value::Refused(number, place),
-        Field::Got(prefix, c) => match c.within(s, 1, 1, BITS_MOST + 1, reply::BEYOND) {
-            Field::Refused(number, place) => Value::Refused(number, place),
-            Field::Got(period, d) => word_bits(d, s, prefix, period),
-        },
-    }
+    let (prefix, c) = start.within(s, 1, 0, BITS_MOST + 1, Cause::Beyond)?;
+    let (period, d) = c.within(s, 1, 1, BITS_MOST + 1, Cause::Beyond)?;
+    word_bits(d, s, prefix, period)
 }

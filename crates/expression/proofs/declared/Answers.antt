@@ -1,72 +1,23 @@
--- `declared` meets its contract: the four fields are read in turn, and then the rule decides.
--- Assumes nothing.
-use mathlib.Core.Path.{◌≡◌, sym, ap, ◌∙◌}
+-- The four fields are read in turn, each within its limits, and then the rule decides.
+use mathlib.Core.Path.{sym}
 use native.Mathlib.Omega.{arith}
-use Prim.Native.Nat.{◌+◌}
-use Rattle.reply.specs.Numbers.{beyond}
-use Rattle.field.specs.Read.{Read.got}
-use Rattle.field.specs.Field.{field_in, signed_in, field_of, signed_of}
 use Rattle.field.proofs.Fields.{field_there}
-use Rattle.envelope.specs.Limits.{l_most, lower_least, lower_most, upper_least, upper_most}
 use Rattle.envelope.specs.Made.{Fields}
 use Rattle.envelope.proofs.Held.{k_held, K_held}
-use Rattle.expression.specs.Inner.Parts.{declared_at}
 use Rattle.expression.proofs.Fields.{fields_read, declared_read}
 use Rattle.expression.proofs.declared.Goals as goal
+use Rattle.expression.proofs.declared.Goals.{In_ok-n}
+
+fields : (c : In_ok-n) → Fields c.in_ok-k.k c.in_ok-top.top c.in_ok-l.l c.in_ok-n.n
+fields c = fields_read _ _ _ _ _ _ _ _ _ _ (sym c.in_ok-k.ensures) (sym c.in_ok-top.ensures) (sym c.in_ok-l.ensures) (sym c.in_ok-n.ensures)
 
 pub overflow_add-l : goal.overflow_add-l
-overflow_add-l c =
-    let l_read : field_in 4 1 (l_most + 1) beyond c.args.s.now c.in-Got-signed_within.c.at ≡ got c.in-Got-within.l c.in-Got-within.c.at = sym c.within.ensures ∙ ap field_of c.in-Got-within.is in
-    record { fits = omega (arith, (field_there _ _ _ _ _ _ _ _ (l_read)).most) }
+overflow_add-l c = record { fits = omega (arith, (field_there _ _ _ _ _ _ _ _ (sym c.in_ok-l.ensures)).most) }
 
 pub declared-requires : goal.declared-requires
-declared-requires c =
-    let k_read : signed_in lower_least lower_most c.args.s.now c.args.c.at ≡ got c.in-Got.k c.in-Got.c.at = sym c.signed_within.ensures ∙ ap signed_of c.in-Got.is in
-    let K_read : signed_in upper_least upper_most c.args.s.now c.in-Got.c.at ≡ got c.in-Got-signed_within.top c.in-Got-signed_within.c.at = sym c.signed_within-in-Got.ensures ∙ ap signed_of c.in-Got-signed_within.is in
-    let l_read : field_in 4 1 (l_most + 1) beyond c.args.s.now c.in-Got-signed_within.c.at ≡ got c.in-Got-within.l c.in-Got-within.c.at = sym c.within.ensures ∙ ap field_of c.in-Got-within.is in
-    let n_read : field_in 4 1 (c.in-Got-within.l + 1) beyond c.args.s.now c.in-Got-within.c.at ≡ got c.in-Got-within-2.n c.in-Got-within-2.c.at = sym c.within-in-Got-within.ensures ∙ ap field_of c.in-Got-within-2.is in
-    let fields : Fields c.in-Got.k c.in-Got-signed_within.top c.in-Got-within.l c.in-Got-within-2.n = fields_read _ _ _ _ _ _ _ _ _ _ (k_read) (K_read) (l_read) (n_read) in
-    let f = fields in
-    rw (k_held _ f.limits, K_held _ f.limits) f
+declared-requires c = let f = fields (goal.at.declared-requires c).In_ok-n in rw (k_held _ f.limits, K_held _ f.limits) f
 
-pub returns-in-Refused : goal.returns-in-Refused
-unfolding declared_at
-returns-in-Refused c = rw (← c.signed_within.ensures, c.in-Refused.is)
-
-pub returns-in-Refused-signed_within : goal.returns-in-Refused-signed_within
-unfolding declared_at
-returns-in-Refused-signed_within c =
-    let k_read : signed_in lower_least lower_most c.args.s.now c.args.c.at ≡ got c.in-Got.k c.in-Got.c.at = sym c.signed_within.ensures ∙ ap signed_of c.in-Got.is in
-    rw (k_read, ← c.signed_within-in-Got.ensures, c.in-Refused-signed_within.is)
-
-pub returns-in-Refused-within : goal.returns-in-Refused-within
-unfolding declared_at
-returns-in-Refused-within c =
-    let k_read : signed_in lower_least lower_most c.args.s.now c.args.c.at ≡ got c.in-Got.k c.in-Got.c.at = sym c.signed_within.ensures ∙ ap signed_of c.in-Got.is in
-    let K_read : signed_in upper_least upper_most c.args.s.now c.in-Got.c.at ≡ got c.in-Got-signed_within.top c.in-Got-signed_within.c.at = sym c.signed_within-in-Got.ensures ∙ ap signed_of c.in-Got-signed_within.is in
-    rw (k_read, K_read, ← c.within.ensures, c.in-Refused-within.is)
-
-pub returns-in-Refused-within-2 : goal.returns-in-Refused-within-2
-unfolding declared_at
-returns-in-Refused-within-2 c =
-    let k_read : signed_in lower_least lower_most c.args.s.now c.args.c.at ≡ got c.in-Got.k c.in-Got.c.at = sym c.signed_within.ensures ∙ ap signed_of c.in-Got.is in
-    let K_read : signed_in upper_least upper_most c.args.s.now c.in-Got.c.at ≡ got c.in-Got-signed_within.top c.in-Got-signed_within.c.at = sym c.signed_within-in-Got.ensures ∙ ap signed_of c.in-Got-signed_within.is in
-    let l_read : field_in 4 1 (l_most + 1) beyond c.args.s.now c.in-Got-signed_within.c.at ≡ got c.in-Got-within.l c.in-Got-within.c.at = sym c.within.ensures ∙ ap field_of c.in-Got-within.is in
-    rw (
-      k_read,
-      K_read,
-      l_read,
-      ← c.within-in-Got-within.ensures,
-      c.in-Refused-within-2.is,
-    )
-
-pub returns-in-Got-within-2 : goal.returns-in-Got-within-2
-returns-in-Got-within-2 c =
-    let k_read : signed_in lower_least lower_most c.args.s.now c.args.c.at ≡ got c.in-Got.k c.in-Got.c.at = sym c.signed_within.ensures ∙ ap signed_of c.in-Got.is in
-    let K_read : signed_in upper_least upper_most c.args.s.now c.in-Got.c.at ≡ got c.in-Got-signed_within.top c.in-Got-signed_within.c.at = sym c.signed_within-in-Got.ensures ∙ ap signed_of c.in-Got-signed_within.is in
-    let l_read : field_in 4 1 (l_most + 1) beyond c.args.s.now c.in-Got-signed_within.c.at ≡ got c.in-Got-within.l c.in-Got-within.c.at = sym c.within.ensures ∙ ap field_of c.in-Got-within.is in
-    let n_read : field_in 4 1 (c.in-Got-within.l + 1) beyond c.args.s.now c.in-Got-within.c.at ≡ got c.in-Got-within-2.n c.in-Got-within-2.c.at = sym c.within-in-Got-within.ensures ∙ ap field_of c.in-Got-within-2.is in
-    let fields : Fields c.in-Got.k c.in-Got-signed_within.top c.in-Got-within.l c.in-Got-within-2.n = fields_read _ _ _ _ _ _ _ _ _ _ (k_read) (K_read) (l_read) (n_read) in
-    let f = fields in
+pub returns : goal.returns
+returns c = let f = fields (goal.at.returns c).In_ok-n in
     rw (c.place.ensures, c.declared.ensures, k_held _ f.limits, K_held _ f.limits)
-    (sym (declared_read _ _ _ _ _ _ _ _ _ _ (k_read) (K_read) (l_read) (n_read) _))
+    (sym (declared_read _ _ _ _ _ _ _ _ _ _ (sym c.in_ok-k.ensures) (sym c.in_ok-top.ensures) (sym c.in_ok-l.ensures) (sym c.in_ok-n.ensures) _))

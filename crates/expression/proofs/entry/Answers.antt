@@ -1,7 +1,6 @@
--- `entry` meets its contract: 32 bits fit 64, and l and n stand in a table as they are, so that they can be cast.
--- Assumes nothing.
+-- 32 bits fit 64, and l and n stand in a table as they are, so that they can be cast.
 use borrow.Author.Rules.{rules}
-use mathlib.Core.Path.{◌≡◌, ap}
+use mathlib.Core.Path.{◌≡◌}
 use native.Mathlib.Omega.{arith}
 use Prim.Native.Nat.{ℕ, ◌+◌, ◌*◌}
 use lib.Dec.{T}
@@ -11,27 +10,17 @@ use lib.Signed.{non_neg}
 use mir.Syntax.{w32, w64}
 use mir.Val.{SFits, Fits, to_z, of_z}
 use mir.Facts.{to_z-of_z}
-use Rattle.envelope.specs.declared.Node.{Node}
-use Rattle.expression.specs.Inner.Nodes.{per_node, node_from}
+use Rattle.expression.specs.Inner.Nodes.{per_node}
 use Rattle.expression.proofs.Tables.{holds_unsigned}
 use Rattle.expression.proofs.entry.Goals as goal
 
-module _ (x : ℤ) (f : SFits w32 x) where
-  -- `entry` meets its contract: 32 bits fit 64, and l and n stand in a table as they are, so that they can be cast.
-  -- Assumes nothing.
-  -- ---- a number of 32 bits that is not below 0, cast
-  unsigned : x ≡ pos (nat_abs x) → T (non_neg (to_z w32 (of_z w32 x))) × Fits w64 (nat_abs (to_z w32 (of_z w32 x)))
-  unsigned e = rw (to_z-of_z f) (go x f e)
-    where
-      go : (y : ℤ) → SFits w32 y → y ≡ pos (nat_abs y) → T (non_neg y) × Fits w64 (nat_abs y)
-      go (pos m) g h = (tt, record { fits = omega (arith, g.sfits) })
-      go (negsuc m) g h = let z : ◌≡◌ {A = ℕ} 0 1 = cc in absurd (omega arith)
-
-  unsigned_held : nat_abs (to_z w32 (of_z w32 x)) ≡ nat_abs x
-  unsigned_held = ap nat_abs (to_z-of_z f)
-
-four : {k K : ℤ} (l n : ℤ) {k' K' : ℤ} {l' n' : ℕ} → k' ≡ k → K' ≡ K → l' ≡ nat_abs l → n' ≡ nat_abs n → ◌≡◌ {A = Node} (record { envelope = record { k = k'; K = K'; l = l'; n = n' } }) (node_from k K l n)
-four l n p q r s = λ i. record { envelope = record { k = p i; K = q i; l = r i; n = s i } }
+-- a number of 32 bits that is not below 0, cast
+unsigned : (x : ℤ) → SFits w32 x → x ≡ pos (nat_abs x) → T (non_neg (to_z w32 (of_z w32 x))) × Fits w64 (nat_abs (to_z w32 (of_z w32 x)))
+unsigned x f e = rw (to_z-of_z f) (go x f e)
+  where
+    go : (y : ℤ) → SFits w32 y → y ≡ pos (nat_abs y) → T (non_neg y) × Fits w64 (nat_abs y)
+    go (pos m) g h = (tt, record { fits = omega (arith, g.sfits) })
+    go (negsuc m) g h = let z : ◌≡◌ {A = ℕ} 0 1 = cc in absurd (omega arith)
 
 pub overflow_cast-result-3 : goal.overflow_cast-result-3
 overflow_cast-result-3 c =

@@ -1,5 +1,4 @@
--- `past` meets its contract. The loop's invariant: up to where the expression ends, `left` expressions stand at `at`. The measure is what is left
--- of the length. Assumes nothing.
+-- Up to where the expression ends, `left` expressions stand at `at`. The measure is what is left of the length.
 use Prim.Native.Nat.{ℕ, ◌-◌}
 use lib.ListN.{length}
 use Rattle.expression.specs.Inner.Skipping.{HasExpr}

@@ -1,30 +1,39 @@
 -- `judging::judge` meets its contract.
 -- Assumes nothing.
-use Rattle.std.proofs.Common.{sym, ◌∙◌, arith}
-use borrow.Author.Tests.{not-true, not-false}
-use Rattle.envelope.proofs.Tests.{is_taken_lem}
-use Rattle.judging.proofs.Judging.{judge_none, judge_long, judge_unbit, judge_scan}
+use Rattle.std.proofs.Common.{◌≡◌, ◌≤◌, true, length, sym, ◌∙◌, rules, arith}
+use Rattle.std.proofs.lemmas.Result.{err_from_is_err_and}
+use Rattle.envelope.specs.Inner.Tests.{is_taken}
+use Rattle.judging.specs.Bytes.{longest}
+use Rattle.judging.specs.Inner.Scan.{judged}
+use Rattle.judging.proofs.Admitted.{not_admitted, Admitted, is_admitted}
 use Rattle.judging.proofs.judge.Goals as goal
+use Rattle.judging.proofs.judge.Goals.{In_ok-admit}
 
-pub returns-then-not-is_taken : goal.returns-then-not-is_taken
-returns-then-not-is_taken c = let a = c.args in
-    judge_none a.e a.pattern.now (sym c.is_taken.ensures ∙ not-true c.is_taken.result c.if-not-is_taken.true-raw)
+admitted_here : (c : In_ok-admit) → Admitted c.args.e c.args.pattern.now
+admitted_here c = is_admitted _ _ (sym c.in_ok-admit.was ∙ c.admit.ensures)
 
-pub returns-then-pattern-gt-LONGEST : goal.returns-then-pattern-gt-LONGEST
-returns-then-pattern-gt-LONGEST c = let a = c.args in
-    judge_long a.e a.pattern.now (sym c.is_taken.ensures ∙ not-false c.is_taken.result c.if-not-is_taken.false-raw) c.if-pattern-gt-LONGEST.true
-
-pub returns-then-plain-pattern : goal.returns-then-plain-pattern
-returns-then-plain-pattern c = let a = c.args in
-    judge_unbit a.e a.pattern.now (sym c.is_taken.ensures ∙ not-false c.is_taken.result c.if-not-is_taken.false-raw) c.if-pattern-gt-LONGEST.false c.plain_len-plain.result c.plain_len-plain.ensures c.if-plain-pattern.true
+pub returns-in_err-admit : goal.returns-in_err-admit
+unfolding judged
+returns-in_err-admit c =
+    let same = err_from_is_err_and c.from_residual.result c.from_residual.ensures.1 in
+    rw (same.1, same.2) (not_admitted _ c.args.pattern.now _ _ (sym c.in_err-admit.was ∙ c.admit.ensures))
 
 pub sweep_or_scan-requires : goal.sweep_or_scan-requires
-sweep_or_scan-requires c = (
-  is_taken_lem c.args.e (sym c.is_taken.ensures ∙ not-false c.is_taken.result c.if-not-is_taken.false-raw),
-  c.if-pattern-gt-LONGEST.false,
-  omega (arith, c.plain_len-plain.ensures, c.if-plain-pattern.false),
-)
+sweep_or_scan-requires c =
+    let h = admitted_here (goal.at.sweep_or_scan-requires c).In_ok-admit in (h.taken, h.short, omega arith)
+
+pub returns-then-plain-pattern : goal.returns-then-plain-pattern
+unfolding judged
+returns-then-plain-pattern c =
+    let h = admitted_here (goal.at.returns-then-plain-pattern c).In_ok-admit in
+    let fine : is_taken c.args.e ≡ true = h.fine in
+    let short : length c.args.pattern.now ≤ longest = h.short in
+    search rules
 
 pub returns : goal.returns
-returns c = let a = c.args in
-    judge_scan a.e a.pattern.now (sym c.is_taken.ensures ∙ not-false c.is_taken.result c.if-not-is_taken.false-raw) c.if-pattern-gt-LONGEST.false c.sweep_or_scan.result (omega (arith, c.plain_len-plain.ensures, c.if-plain-pattern.false)) c.sweep_or_scan.ensures
+unfolding judged
+returns c =
+    let h = admitted_here (goal.at.returns c).In_ok-admit in
+    let fine : is_taken c.args.e ≡ true = h.fine in
+    let short : length c.args.pattern.now ≤ longest = h.short in
+    search rules

@@ -16,4 +16,5 @@ pub returns-else-e-d : goal.returns-else-e-d
 unfolding one_at
 returns-else-e-d c =
     let lower : (b : Bool) → le_z (to_z w64 (of_z w64 c.args.e.k)) (to_z w64 (of_z w64 c.args.d)) ≡ b → le_z c.args.e.k c.args.d ≡ b = λ b h. sym (ap₂ le_z (k_held c.args.e c.requires.limits) (to_z-of_z c.ranges.d)) ∙ h in
-    rw (lower false c.if-e-d.false)
+    let below : false ≡ one_at c.args.e c.args.d = rw (lower false c.if-e-d.false) in
+    c.if-e-d.false ∙ below

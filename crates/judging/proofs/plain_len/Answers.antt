@@ -1,4 +1,4 @@
--- `judging::plain_len` meets its contract. The loop's invariant: every byte passed is a bit.
+-- `judging::plain_len` meets its contract.
 -- Assumes nothing.
 use Rattle.std.proofs.Common.{◌≤◌, sym}
 use Rattle.judging.specs.Inner.Scan.{largest_from}

@@ -1,11 +1,12 @@
 -- What the code's loops find. They carry n*i - l*j along as one number, the offset d of a place.
-use Rattle.std.specs.Prelude.{ℕ, zero, suc, ◌*◌, Bool, cond, ◌&&◌, List, [], ◌∷◌, length, ℤ, pos, ◌+ℤ◌, ◌-ℤ◌, neg_ℤ, ◌≤ℤ◌, int_le, nat_lt}
-use Rattle.reply.specs.Numbers.{no_envelope, long_pattern, not_a_bit, outside}
+use Rattle.std.specs.Prelude.{◌≡◌, ℕ, zero, suc, ◌*◌, max, Bool, cond, ◌&&◌, ◌==◌, List, [], ◌∷◌, length, fold, ℤ, pos, ◌+ℤ◌, ◌-ℤ◌, neg_ℤ, ◌≤ℤ◌, int_le, nat_lt, Result, Ok}
+use Rattle.std.specs.List.{prefix_len}
+use Rattle.reply.specs.declared.Cause.TheVariants.{NoEnvelope, LongPattern, NotABit, Outside}
+use Rattle.reply.specs.declared.Refusal.{Refusal}
+use Rattle.reply.specs.Refusal.{refused_for}
 use Rattle.envelope.specs.declared.Envelope.{Envelope}
 use Rattle.envelope.specs.Limits.{l_most}
 use Rattle.envelope.specs.Inner.Tests.{is_taken}
-use Rattle.judging.specs.declared.Judged.{Judged}
-use Rattle.judging.specs.declared.Judged.TheVariants.{Sound, Unsound}
 use Rattle.judging.specs.Bytes.{longest, plain}
 
 -- an offset after i bits is this near to 0
@@ -36,15 +37,17 @@ abbrev pub offset_after : Envelope → ℤ → ℕ → ℤ
 offset_after e d b = d +ℤ step_of e b
 
 -- from place i on: the first forbidden step, or the offset past the end
-abbrev pub scanned : Envelope → ℕ → ℤ → List ℕ → Judged
-scanned e i d [] = Sound d
-scanned e i d (b ∷ p) = cond (may_at e d b) (scanned e (suc i) (offset_after e d b) p) (Unsound outside i)
+abbrev pub scanned : Envelope → ℕ → ℤ → List ℕ → Result ℤ Refusal
+scanned e i d [] = Ok d
+scanned e i d (b ∷ p) = cond (may_at e d b) (scanned e (suc i) (offset_after e d b) p) (refused_for Outside i)
+
+-- some bits may all follow where the offset is d, and leave r behind, at whatever place they begin
+abbrev pub Swept : Envelope → ℤ → List ℕ → ℤ → Type 0
+Swept e d p r = (i : ℕ) → scanned e i d p ≡ Ok r
 
 -- how many 0s some bits begin with
 abbrev pub leading_of : List ℕ → ℕ
-leading_of [] = zero
-leading_of (zero ∷ p) = suc (leading_of p)
-leading_of (suc b ∷ p) = zero
+leading_of p = prefix_len (λ b. b == 0) p
 
 -- the least offset that a 1 may leave behind
 abbrev pub floor_of : Envelope → ℤ
@@ -52,14 +55,17 @@ floor_of e = e.k +ℤ step_of e 1
 
 -- the largest of m and of some bytes
 abbrev pub largest_from : ℕ → List ℕ → ℕ
-largest_from m [] = m
-largest_from m (b ∷ p) = largest_from (cond (nat_lt m b) b m) p
+largest_from m p = fold max m p
+
+-- 12 and 13, both at 0
+abbrev pub admitted : Envelope → List ℕ → Result (Unit {0}) Refusal
+admitted e p = cond (is_taken e) (cond (nat_lt longest (length p)) (refused_for LongPattern 0) (Ok tt)) (refused_for NoEnvelope 0)
 
 -- 12 to 15, or the offset past the end
-unfoldable pub judged : Envelope → List ℕ → Judged
+unfoldable pub judged : Envelope → List ℕ → Result ℤ Refusal
 judged e p =
     cond (is_taken e)
-    (cond (nat_lt longest (length p)) (Unsound long_pattern 0)
-    (cond (nat_lt (plain p) (length p)) (Unsound not_a_bit (plain p))
+    (cond (nat_lt longest (length p)) (refused_for LongPattern 0)
+    (cond (nat_lt (plain p) (length p)) (refused_for NotABit (plain p))
     (scanned e 0 (pos 0) p)))
-    (Unsound no_envelope 0)
+    (refused_for NoEnvelope 0)

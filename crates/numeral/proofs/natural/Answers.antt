@@ -1,19 +1,13 @@
--- `natural` meets its contract: what is left of the text, read on from the number so far, is the whole text's number. Assumes nothing.
-use mathlib.Core.Path.{sym, ◌∙◌}
-use native.Mathlib.Omega.{arith}
-use Rattle.numeral.proofs.Figures.{natural_from, natural_some, natural_none, read_one, read_all}
+-- `natural` meets its contract.
+use Rattle.std.proofs.Common.{◌≡◌, ◌∙◌, rules, MatchResult, Ok, Err}
+use Rattle.numeral.specs.declared.NumberError.TheVariants.{NotANumber, TooLarge}
+use Rattle.numeral.proofs.Figures.{natural_none, natural_read}
 use Rattle.numeral.proofs.natural.Goals as goal
 
-pub returns-then-text-eq0 : goal.returns-then-text-eq0
-returns-then-text-eq0 c = natural_none c.args.text.now c.if-text-eq0.true
-
-pub loop-i-init : goal.loop-i-init
-loop-i-init c = (omega arith, natural_from c.args.text.now)
-
-pub loop-i-preserved : goal.loop-i-preserved
-loop-i-preserved c = let text = c.args.text.now in
-    (omega arith, rw c.figure_then-number.ensures (sym (read_one c.loop-i.number text c.loop-i.i c.loop-i-test.true) ∙ c.loop-i.invariant.1))
+pub returns-in_err-figures : goal.returns-in_err-figures
+returns-in_err-figures c = let e : c.from_residual.result ≡ Err NotANumber = search rules in e ∙ natural_none _ c.in_err-figures.ensures.1
 
 pub returns : goal.returns
-returns c = let text = c.args.text.now in
-    sym (read_all c.loop-i.number text c.loop-i.i (omega arith)) ∙ c.loop-i.invariant.1 ∙ sym (natural_some text (omega arith))
+returns c =
+    let m : MatchResult c.parse.result (λ n. c.map_err.result ≡ Ok n) (λ e. c.map_err.result ≡ Err TooLarge) = search rules in
+    natural_read c.args.text.now _ _ _ c.in_ok-figures.ensures c.parse.ensures.value.0 m

@@ -1,19 +1,16 @@
 -- `pattern::check` meets its contract.
 -- Assumes nothing.
-use mathlib.Core.Path.{sym, ◌∙◌}
-use Rattle.envelope.specs.declared.Envelope.{Envelope}
-use Rattle.judging.specs.declared.Judged.TheVariants.{Sound, Unsound}
-use Rattle.pattern.proofs.Answers.{held_of, checks_given, check_is}
+use Rattle.std.proofs.Common.{sym, ◌∙◌}
+use Rattle.std.proofs.lemmas.Result.{err_from_is_err_and}
+use Rattle.pattern.proofs.Answers.{check_is}
 use Rattle.pattern.proofs.check.Goals as goal
 
-pub returns-in-Unsound : goal.returns-in-Unsound
-returns-in-Unsound c =
-    let held : Envelope = held_of c.args.k c.args.K c.args.l c.args.n in
-    checks_given c.args.k c.args.K c.args.l c.args.n c.ranges.k c.ranges.K
-    (record { answer_is = check_is (held) c.args.pattern.now (Unsound c.in-Unsound.number c.in-Unsound.place) (sym c.in-Unsound.is ∙ c.judge.ensures) })
+pub returns-in_err-judge : goal.returns-in_err-judge
+returns-in_err-judge c =
+    let same = err_from_is_err_and c.from_residual.result c.from_residual.ensures.1 in
+    rw (same.1, same.2)
+    (record { answer_is = check_is _ c.args.pattern.now _ (sym c.in_err-judge.was ∙ c.judge.ensures) })
 
-pub returns-in-Sound : goal.returns-in-Sound
-returns-in-Sound c =
-    let held : Envelope = held_of c.args.k c.args.K c.args.l c.args.n in
-    checks_given c.args.k c.args.K c.args.l c.args.n c.ranges.k c.ranges.K
-    (record { answer_is = check_is (held) c.args.pattern.now (Sound c.in-Sound.field-0) (sym c.in-Sound.is ∙ c.judge.ensures) })
+pub returns : goal.returns
+returns c =
+    record { answer_is = check_is _ c.args.pattern.now _ (sym c.in_ok-judge.was ∙ c.judge.ensures) }

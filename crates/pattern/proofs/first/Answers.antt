@@ -1,33 +1,28 @@
 -- `pattern::first` meets its contract.
 -- Assumes nothing.
-use borrow.Author.Tests.{not-true, not-false}
-use native.Mathlib.Omega.{arith}
-use mathlib.Core.Path.{sym, ◌∙◌}
-use Rattle.envelope.specs.declared.Envelope.{Envelope}
-use Rattle.envelope.proofs.Tests.{is_taken_lem}
-use Rattle.judging.proofs.Offsets.{near_start}
-use Rattle.pattern.proofs.Answers.{held_of, firsts_given, first_none, first_long, first_done}
+use Rattle.std.proofs.Common.{pos, sym, ◌∙◌, arith}
+use Rattle.std.proofs.lemmas.Result.{err_from_is_err_and}
+use Rattle.judging.proofs.Admitted.{Admitted, is_admitted}
+use Rattle.judging.proofs.Offsets.{near_start, near_more}
+use Rattle.pattern.proofs.Answers.{first_bad, first_done}
 use Rattle.pattern.proofs.first.Goals as goal
+use Rattle.pattern.proofs.first.Goals.{In_ok-admit}
 
-pub returns-then-not-is_taken : goal.returns-then-not-is_taken
-returns-then-not-is_taken c =
-    let held : Envelope = held_of c.args.k c.args.K c.args.l c.args.n in
-    firsts_given c.args.k c.args.K c.args.l c.args.n c.ranges.k c.ranges.K
-    (first_none (held) c.args.pattern.now (sym c.is_taken.ensures ∙ not-true c.is_taken.result c.if-not-is_taken.true-raw))
+admitted_here : (c : In_ok-admit) → Admitted c.args.e c.args.pattern.now
+admitted_here c = is_admitted _ _ (sym c.in_ok-admit.was ∙ c.admit.ensures)
 
-pub returns-then-pattern-gt-LONGEST : goal.returns-then-pattern-gt-LONGEST
-returns-then-pattern-gt-LONGEST c =
-    let held : Envelope = held_of c.args.k c.args.K c.args.l c.args.n in
-    firsts_given c.args.k c.args.K c.args.l c.args.n c.ranges.k c.ranges.K
-    (first_long (held) c.args.pattern.now (sym c.is_taken.ensures ∙ not-false c.is_taken.result c.if-not-is_taken.false-raw) c.if-pattern-gt-LONGEST.true)
+pub returns-in_err-admit : goal.returns-in_err-admit
+returns-in_err-admit c =
+    let same = err_from_is_err_and c.from_residual.result c.from_residual.ensures.1 in
+    rw (same.1, same.2)
+    (first_bad _ c.args.pattern.now _ (sym c.in_err-admit.was ∙ c.admit.ensures))
 
 pub fill-requires : goal.fill-requires
 fill-requires c =
-    let held : Envelope = held_of c.args.k c.args.K c.args.l c.args.n in
-    (is_taken_lem (held) (sym c.is_taken.ensures ∙ not-false c.is_taken.result c.if-not-is_taken.false-raw), c.if-pattern-gt-LONGEST.false, omega arith, near_start)
+    let h = admitted_here (goal.at.fill-requires c).In_ok-admit in
+    (h.taken, h.short, near_more 0 _ (pos 0) (omega arith) near_start)
 
 pub returns : goal.returns
 returns c =
-    let held : Envelope = held_of c.args.k c.args.K c.args.l c.args.n in
-    firsts_given c.args.k c.args.K c.args.l c.args.n c.ranges.k c.ranges.K
-    (first_done (held) c.args.pattern.now (sym c.is_taken.ensures ∙ not-false c.is_taken.result c.if-not-is_taken.false-raw) c.if-pattern-gt-LONGEST.false c.fill.new.pattern c.fill.ensures)
+    let h = admitted_here (goal.at.returns c).In_ok-admit in
+    first_done _ c.args.pattern.now h.fine h.short c.fill.new.rest c.fill.ensures

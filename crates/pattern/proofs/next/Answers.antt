@@ -1,72 +1,54 @@
 -- `pattern::next` meets its contract.
 -- Assumes nothing.
-use native.Mathlib.Omega.{arith}
-use mathlib.Core.Path.{◌≡◌, sym, ◌∙◌}
-use lib.ListN.{length-set}
-use Rattle.envelope.specs.declared.Envelope.{Envelope}
-use Rattle.judging.specs.declared.Judged.TheVariants.{Sound}
+use Rattle.std.proofs.Common.{◌≡◌, ◌∷◌, ◌++◌, sym, ◌∙◌, ap, arith, Ok, ℕ, List, take}
+use Rattle.std.proofs.lemmas.Result.{err_from_is_err_and}
 use Rattle.judging.specs.Inner.Scan.{judged}
-use Rattle.pattern.proofs.Answers.{held_of, nexts_given, next_bad, next_last, next_done, within, short, taken, all_bits, end_held, near_held_lift, near_after}
+use Rattle.pattern.specs.Inner.Lifts.{filled}
+use Rattle.pattern.proofs.Answers.{next_bad, next_last, next_done, short, taken, all_bits, end_held, near_held_lift, near_after}
+use Rattle.pattern.proofs.Loops.{raised, left_behind}
 use Rattle.pattern.proofs.next.Goals as goal
+use Rattle.pattern.proofs.next.Goals.{In_ok-end}
 
-pub last_lift-m-requires-clause-taken : goal.last_lift-m-requires-clause-taken
-last_lift-m-requires-clause-taken c =
-    let held : Envelope = held_of c.args.k c.args.K c.args.l c.args.n in
-    let sound : Sound c.in-Sound.end ≡ judged (held) c.args.pattern.now = sym c.in-Sound.is ∙ c.judge.ensures in
-    let p = c.args.pattern.now in
-    let end = c.in-Sound.end in (taken (held) p end (sound), short (held) p end (sound), all_bits (held) p end (sound))
+sound : (c : In_ok-end) → Ok c.in_ok-end.end ≡ judged c.args.e c.args.pattern.now
+sound c = sym c.in_ok-end.was ∙ c.judge.ensures
 
-pub last_lift-m-requires-clause-end_value : goal.last_lift-m-requires-clause-end_value
-last_lift-m-requires-clause-end_value c =
-    let held : Envelope = held_of c.args.k c.args.K c.args.l c.args.n in
-    let sound : Sound c.in-Sound.end ≡ judged (held) c.args.pattern.now = sym c.in-Sound.is ∙ c.judge.ensures in
-    let p = c.args.pattern.now in
-    let end = c.in-Sound.end in end_held (held) p end (sound)
+pub returns-in_err-end : goal.returns-in_err-end
+returns-in_err-end c =
+    let same = err_from_is_err_and c.from_residual.result c.from_residual.ensures.1 in
+    rw (same.1, same.2)
+    (next_bad _ c.args.pattern.now _ (sym c.in_err-end.was ∙ c.judge.ensures))
 
-pub returns-then-place-eq0 : goal.returns-then-place-eq0
-returns-then-place-eq0 c =
-    let held : Envelope = held_of c.args.k c.args.K c.args.l c.args.n in
-    let sound : Sound c.in-Sound.end ≡ judged (held) c.args.pattern.now = sym c.in-Sound.is ∙ c.judge.ensures in
-    nexts_given c.args.k c.args.K c.args.l c.args.n c.ranges.k c.ranges.K
-    (next_last (held) c.args.pattern.now c.in-Sound.end (sound) c.last_lift-m.result c.last_lift-m.ensures c.if-place-eq0.true)
+pub last_lift-requires-clause-taken : goal.last_lift-requires-clause-taken
+last_lift-requires-clause-taken c =
+    let s = sound (goal.at.last_lift-requires-clause-taken c).In_ok-end in
+    (taken _ _ _ s, short _ _ _ s, all_bits _ _ _ s)
 
-pub bounds-pattern-place : goal.bounds-pattern-place
-bounds-pattern-place c =
-    let held : Envelope = held_of c.args.k c.args.K c.args.l c.args.n in
-    let sound : Sound c.in-Sound.end ≡ judged (held) c.args.pattern.now = sym c.in-Sound.is ∙ c.judge.ensures in
-    omega (arith, within (held) c.args.pattern.now c.in-Sound.end (sound) c.last_lift-m.result c.last_lift-m.ensures c.if-place-eq0.false, c.if-place-eq0.false)
+pub last_lift-requires-clause-end_value : goal.last_lift-requires-clause-end_value
+last_lift-requires-clause-end_value c = end_held _ _ _ (sound (goal.at.last_lift-requires-clause-end_value c).In_ok-end)
 
-pub moved_on-d-requires : goal.moved_on-d-requires
-moved_on-d-requires c =
-    let held : Envelope = held_of c.args.k c.args.K c.args.l c.args.n in
-    let sound : Sound c.in-Sound.end ≡ judged (held) c.args.pattern.now = sym c.in-Sound.is ∙ c.judge.ensures in
-    let p = c.args.pattern.now in
-    let end = c.in-Sound.end in
-    (taken (held) p end (sound), near_held_lift (held) p end (sound) c.last_lift-m.result c.last_lift-m.ensures c.if-place-eq0.false, omega arith)
+pub returns-in_default : goal.returns-in_default
+returns-in_default c =
+    next_last _ _ _ (sound (goal.at.returns-in_default c).In_ok-end) _ c.last_lift.ensures.lift c.in_default.is
+
+pub moved_on-after-requires : goal.moved_on-after-requires
+moved_on-after-requires c =
+    let s = sound (goal.at.moved_on-after-requires c).In_ok-end in
+    (taken _ _ _ s, near_held_lift _ _ _ s _ c.last_lift.ensures.lift c.in-Some.field-0 c.in-Some.is, omega arith)
 
 pub fill-requires : goal.fill-requires
 fill-requires c =
-    let held : Envelope = held_of c.args.k c.args.K c.args.l c.args.n in
-    let sound : Sound c.in-Sound.end ≡ judged (held) c.args.pattern.now = sym c.in-Sound.is ∙ c.judge.ensures in
-    let p = c.args.pattern.now in
-    let end = c.in-Sound.end in
-    let m = c.last_lift-m.result in
-    let is_lift = c.last_lift-m.ensures in (
-      taken (held) p end (sound),
-      rw length-set (short (held) p end (sound)),
-      rw length-set (within (held) p end (sound) m is_lift c.if-place-eq0.false),
-      near_after (held) p end (sound) m is_lift c.if-place-eq0.false c.moved_on-d.result c.moved_on-d.ensures,
+    let s = sound (goal.at.fill-requires c).In_ok-end in
+    let left = left_behind c.args.pattern.now c.in-Some.field-0.place in
+    let most = short _ _ _ s in (
+      taken _ _ _ s,
+      omega (arith, left, most),
+      rw left (near_after _ _ _ s _ c.last_lift.ensures.lift c.in-Some.field-0 c.in-Some.is _ c.moved_on-after.ensures _ (omega (arith, most, c.in-Some.ensures.within))),
     )
 
-pub returns-in-Unsound : goal.returns-in-Unsound
-returns-in-Unsound c =
-    let held : Envelope = held_of c.args.k c.args.K c.args.l c.args.n in
-    nexts_given c.args.k c.args.K c.args.l c.args.n c.ranges.k c.ranges.K
-    (next_bad (held) c.args.pattern.now c.in-Unsound.number c.in-Unsound.place (sym c.in-Unsound.is ∙ c.judge.ensures))
-
-pub returns-else-place-eq0 : goal.returns-else-place-eq0
-returns-else-place-eq0 c =
-    let held : Envelope = held_of c.args.k c.args.K c.args.l c.args.n in
-    let sound : Sound c.in-Sound.end ≡ judged (held) c.args.pattern.now = sym c.in-Sound.is ∙ c.judge.ensures in
-    nexts_given c.args.k c.args.K c.args.l c.args.n c.ranges.k c.ranges.K
-    (next_done (held) c.args.pattern.now c.in-Sound.end (sound) c.last_lift-m.result c.last_lift-m.ensures c.if-place-eq0.false c.moved_on-d.result c.moved_on-d.ensures c.fill.new.pattern c.fill.ensures)
+pub returns : goal.returns
+returns c =
+    let p = c.args.pattern.now in
+    let t = c.in-Some.field-0.place in
+    let rest = c.fill.ensures ∙ ap (filled _ _) (left_behind p t) in
+    next_done _ _ _ (sound (goal.at.returns c).In_ok-end) _ c.last_lift.ensures.lift c.in-Some.field-0 c.in-Some.is _ c.moved_on-after.ensures _
+    (raised p t c.fill.new.rest c.in-Some.ensures.within ∙ ap (λ (ys : List ℕ). take t p ++ (1 ∷ ys)) rest)

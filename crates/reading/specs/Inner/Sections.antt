@@ -1,18 +1,18 @@
 -- What the code's readers of sections answer, and what they leave in the tables that are lent to them: each by the one reader of Reader.antt.
-use Rattle.std.specs.Prelude.{◌≡◌, List, [], ◌∷◌, map, ℕ, ◌+◌, ◌*◌, ℤ, length, take, get_or}
+use Rattle.std.specs.Prelude.{◌≡◌, List, [], ◌∷◌, map, ℕ, ◌+◌, ◌*◌, ℤ, length, take, get_or, Result, Ok, Err}
 use Rattle.reply.specs.Numbers.{unknown}
 use Rattle.field.specs.Read.{Read, Read.got, Read.refused, bind, mapped}
-use Rattle.field.specs.Field.{field_in, field_of}
-use Rattle.field.specs.declared.Field.{Field}
+use Rattle.field.specs.Field.{field_in, read_of}
+use Rattle.field.specs.declared.Cursor.{Cursor}
+use Rattle.reply.specs.declared.Refusal.{Refusal}
+use Rattle.reply.specs.Refusal.{cause_number, refusal}
 use Rattle.envelope.specs.declared.Node.{Node}
 use Rattle.expression.specs.Expression.{Word, Clock, depth_most, spell_word}
 use Rattle.expression.specs.Evaluate.{word_nodes}
 use Rattle.expression.specs.Reader.{expr_at, node_in}
 use Rattle.expression.specs.Inner.Nodes.{per_node, flats, AllTaken}
-use Rattle.reading.specs.declared.Marked.{Marked}
-use Rattle.reading.specs.declared.Ends.{Ends}
+use Rattle.reading.specs.declared.Mark.{Mark}
 use Rattle.reading.specs.declared.Found.{Found}
-use Rattle.reading.specs.declared.Reading.{Reading}
 use Rattle.sheet.specs.Sheet.{Link, section, words_most}
 use Rattle.sheet.specs.Reader.{section_at, word_at, links_on, clocks_on}
 use Rattle.sheet.specs.SheetRead.{ClockNode, node_of_clock, SheetRead}
@@ -20,24 +20,17 @@ use Rattle.sheet.specs.SheetRead.{ClockNode, node_of_clock, SheetRead}
 -- ---- words
 
 -- how many words, and their nodes in the table
-abbrev pub WordsLeft : Read (List Word) → Field → List ℤ → Type 0
+abbrev pub WordsLeft : Read (List Word) → Result (ℕ × Cursor) Refusal → List ℤ → Type 0
 WordsLeft (got ws c) r t =
-    (field_of r ≡ got (length ws) c) × (take (per_node * length ws) t ≡ flats (word_nodes ws)) × AllTaken (word_nodes ws)
-WordsLeft (refused number place) r t = field_of r ≡ refused number place
+    (read_of r ≡ got (length ws) c) × (take (per_node * length ws) t ≡ flats (word_nodes ws)) × AllTaken (word_nodes ws)
+WordsLeft (refused number place) r t = read_of r ≡ refused number place
 
-abbrev pub WordRows : List ℕ → ℕ → Field → List ℤ → Type 0
+abbrev pub WordRows : List ℕ → ℕ → Result (ℕ × Cursor) Refusal → List ℤ → Type 0
 WordRows s a r t = WordsLeft (section_at (λ xs a. word_at s a) words_most s a) r t
 
 -- ---- clocks
 
 -- a clock as the code keeps it
-pub record Mark : Type 0 where
-  pub state : ℕ
-  pub node : Node
-
-abbrev pub marked_of : Marked → Read Mark
-marked_of (Marked.Got state x c) = got (record { state = state; node = x }) c.at
-marked_of (Marked.Refused number place) = refused number place
 
 unfoldable pub marked_at : List ℕ → List Node → List Node → ℕ → Read Mark
 marked_at s ws cs a =
@@ -49,18 +42,18 @@ abbrev pub state_of_row : ClockNode → ℕ
 state_of_row r = r.clock.state
 
 -- how many clocks, their nodes in one table and their states in another
-abbrev pub ClockRows : Read (List ClockNode) → Field → List ℤ → List ℕ → Type 0
+abbrev pub ClockRows : Read (List ClockNode) → Result (ℕ × Cursor) Refusal → List ℤ → List ℕ → Type 0
 ClockRows (got rows c) r t ss =
-    (field_of r ≡ got (length rows) c)
+    (read_of r ≡ got (length rows) c)
     × (take (per_node * length rows) t ≡ flats (map node_of_clock rows))
     × (take (length rows) ss ≡ map state_of_row rows)
     × AllTaken (map node_of_clock rows)
-ClockRows (refused number place) r t ss = field_of r ≡ refused number place
+ClockRows (refused number place) r t ss = read_of r ≡ refused number place
 
 -- ---- links
-abbrev pub ends_of : Ends → Read Link
-ends_of (Ends.Got i j c) = got (record { producer = i; consumer = j }) c.at
-ends_of (Ends.Refused number place) = refused number place
+abbrev pub ends_of : Result ((ℕ × ℕ) × Cursor) Refusal → Read Link
+ends_of (Ok ((i, j), c)) = got (record { producer = i; consumer = j }) c.at
+ends_of (Err r) = refused (cause_number r.cause) r.place
 
 -- their ends, one after another in a table
 unfoldable pub flat_links : List Link → List ℕ
@@ -78,9 +71,9 @@ abbrev pub link_in : List ℕ → ℕ → Link
 link_in es i = record { producer = get_or es (2 * i) 0; consumer = get_or es (2 * i + 1) 0 }
 
 -- how many links, and their ends in a table
-abbrev pub LinkRows : Read (List Link) → Field → List ℕ → Type 0
-LinkRows (got ls c) r es = (field_of r ≡ got (length ls) c) × (take (2 * length ls) es ≡ flat_links ls)
-LinkRows (refused number place) r es = field_of r ≡ refused number place
+abbrev pub LinkRows : Read (List Link) → Result (ℕ × Cursor) Refusal → List ℕ → Type 0
+LinkRows (got ls c) r es = (read_of r ≡ got (length ls) c) × (take (2 * length ls) es ≡ flat_links ls)
+LinkRows (refused number place) r es = read_of r ≡ refused number place
 
 -- ---- a whole sheet
 
@@ -88,17 +81,17 @@ LinkRows (refused number place) r es = field_of r ≡ refused number place
 abbrev pub found_from : ℕ → SheetRead → Found
 found_from first o = record { clocks = length o.table; links = length o.sheet.links; clockrows = first }
 
-abbrev pub reading_from : ℕ → Read SheetRead → Reading
-reading_from first (got o c) = Reading.Got (found_from first o)
-reading_from first (refused number place) = Reading.Refused number place
+abbrev pub reading_from : ℕ → Read SheetRead → Result Found Refusal
+reading_from first (got o c) = Ok (found_from first o)
+reading_from first (refused number place) = Err (refusal number place)
 
 -- they begin behind the words and the count of the clocks
 abbrev pub found_of : SheetRead → Found
 found_of o = found_from (length (section spell_word o.sheet.words) + 2) o
 
-abbrev pub reading_of : Read SheetRead → Reading
-reading_of (got o c) = Reading.Got (found_of o)
-reading_of (refused number place) = Reading.Refused number place
+abbrev pub reading_of : Read SheetRead → Result Found Refusal
+reading_of (got o c) = Ok (found_of o)
+reading_of (refused number place) = Err (refusal number place)
 
 abbrev pub state_of_clock : Clock → ℕ
 state_of_clock c = c.state
@@ -118,11 +111,11 @@ Tabled (got o c) t ss es =
 Tabled (refused number place) t ss es = Unit
 
 -- what is answered and left from the links on, whatever the words and the m clocks before them are
-abbrev pub ToEnd : List ℕ → ℕ → ℕ → ℕ → Reading → List ℕ → Type 0
+abbrev pub ToEnd : List ℕ → ℕ → ℕ → ℕ → Result Found Refusal → List ℕ → Type 0
 ToEnd s first a m r es =
     (ws : List Word) (rows : List ClockNode) → length rows ≡ m → (r ≡ reading_from first (links_on s ws rows a)) × EndsLeft (links_on s ws rows a) es
 
 -- and from the clocks on, whatever words have those nodes
-abbrev pub FromClocks : List ℕ → ℕ → List Node → Reading → List ℤ → List ℕ → List ℕ → Type 0
+abbrev pub FromClocks : List ℕ → ℕ → List Node → Result Found Refusal → List ℤ → List ℕ → List ℕ → Type 0
 FromClocks s a xs r t ss es =
     (ws : List Word) → xs ≡ word_nodes ws → (r ≡ reading_from (a + 2) (clocks_on s ws a)) × Tabled (clocks_on s ws a) t ss es

@@ -1,34 +1,24 @@
--- `register::quote` meets its contract. Assumes nothing.
+-- `quote` meets its contract. Assumes nothing.
 use mathlib.Core.Path.{refl}
-use Prim.Native.Nat.{◌+◌, ◌≤◌}
 use native.Mathlib.Omega.{arith}
-use lib.ListN.{length}
 use borrow.Author.Rules.{rules}
-use Rattle.register.proofs.Finds.{quotes_by, quote_refused, quote_there, quote_within}
+use Rattle.register.proofs.Finds.{quotes_by, quotes_none, quote_there, quote_within}
 use Rattle.register.proofs.quote.Goals as goal
 
-pub overflow_add-from : goal.overflow_add-from
-overflow_add-from c =
-    let within : (c.in-Got.at + 1 ≤ c.in-Got.c.at) × (c.in-Got.c.at ≤ length c.args.sheet.now) = quote_within _ _ _ c.find.ensures (λ j. (c.type_inv.sheet j).fits) _ _ c.in-Got.is in
-    record { fits = omega (arith, within) }
+pub overflow_add-result : goal.overflow_add-result
+overflow_add-result c = record { fits = omega (arith, quote_within _ c.args.clock (λ j. (c.type_inv.sheet j).fits) _ _ c.in-Ok.ensures) }
 
 pub slice_bounds-result-count : goal.slice_bounds-result-count
-slice_bounds-result-count c =
-    let within : (c.in-Got.at + 1 ≤ c.in-Got.c.at) × (c.in-Got.c.at ≤ length c.args.sheet.now) = quote_within _ _ _ c.find.ensures (λ j. (c.type_inv.sheet j).fits) _ _ c.in-Got.is in
-    (within).0
+slice_bounds-result-count c = (quote_within _ c.args.clock (λ j. (c.type_inv.sheet j).fits) _ _ c.in-Ok.ensures).0
 
 pub slice_bounds-result-start : goal.slice_bounds-result-start
-slice_bounds-result-start c =
-    let within : (c.in-Got.at + 1 ≤ c.in-Got.c.at) × (c.in-Got.c.at ≤ length c.args.sheet.now) = quote_within _ _ _ c.find.ensures (λ j. (c.type_inv.sheet j).fits) _ _ c.in-Got.is in
-    (within).0
+slice_bounds-result-start c = (quote_within _ c.args.clock (λ j. (c.type_inv.sheet j).fits) _ _ c.in-Ok.ensures).0
 
-pub slice_bounds-result-end-in-Got : goal.slice_bounds-result-end-in-Got
-slice_bounds-result-end-in-Got c =
-    let within : (c.in-Got.at + 1 ≤ c.in-Got.c.at) × (c.in-Got.c.at ≤ length c.args.sheet.now) = quote_within _ _ _ c.find.ensures (λ j. (c.type_inv.sheet j).fits) _ _ c.in-Got.is in
-    (within).1
+pub slice_bounds-result-end : goal.slice_bounds-result-end
+slice_bounds-result-end c = (quote_within _ c.args.clock (λ j. (c.type_inv.sheet j).fits) _ _ c.in-Ok.ensures).1
 
-pub returns-in-Refused : goal.returns-in-Refused
-returns-in-Refused c = quotes_by (quote_refused _ _ _ c.find.ensures _ _ c.in-Refused.is) refl refl (search rules)
+pub returns-in-Ok : goal.returns-in-Ok
+returns-in-Ok c = quotes_by (quote_there _ _ (λ j. (c.type_inv.sheet j).fits) _ _ c.in-Ok.ensures) refl refl (search rules)
 
-pub returns-in-Got : goal.returns-in-Got
-returns-in-Got c = quotes_by (quote_there _ _ _ c.find.ensures (λ j. (c.type_inv.sheet j).fits) _ _ c.in-Got.is) refl refl (search rules)
+pub returns-in-Err : goal.returns-in-Err
+returns-in-Err c = quotes_none _ _ _ c.in-Err.ensures _

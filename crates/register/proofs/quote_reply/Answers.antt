@@ -1,9 +1,11 @@
--- `register::quote_reply` meets its contract. Assumes nothing.
-use Rattle.register.proofs.Finds.{quote_refused, quote_there}
+-- `quote_reply` meets its contract. Assumes nothing.
+use Rattle.std.proofs.lemmas.Result.{err_from_is_err_and}
+use Rattle.register.proofs.Finds.{replies_refused, replies_there}
 use Rattle.register.proofs.quote_reply.Goals as goal
 
-pub returns-in-Refused : goal.returns-in-Refused
-returns-in-Refused c = record { reply_is = rw (quote_refused _ _ _ c.find.ensures _ _ c.in-Refused.is) }
+pub returns-in_err-find : goal.returns-in_err-find
+returns-in_err-find c = let p = err_from_is_err_and c.from_residual.result c.from_residual.ensures.1 in
+    rw (p.1, p.2) (replies_refused _ _ _ c.in_err-find.ensures)
 
-pub returns-in-Got : goal.returns-in-Got
-returns-in-Got c = record { reply_is = rw (quote_there _ _ _ c.find.ensures (λ j. (c.type_inv.sheet j).fits) _ _ c.in-Got.is) }
+pub returns : goal.returns
+returns c = replies_there _ _ (λ j. (c.type_inv.sheet j).fits) _ _ c.in_ok-find.ensures

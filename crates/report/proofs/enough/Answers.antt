@@ -7,4 +7,4 @@ use Rattle.report.proofs.Texts.{measured}
 use Rattle.report.proofs.enough.Goals as goal
 
 pub returns : goal.returns
-returns c = ap (λ (x : ℕ). leb x c.args.room) (measured (whole_text _ _ _) c.requires.1 _ _ _ c.put_sheet.ensures)
+returns c = ap (λ (x : ℕ). leb x c.args.room) (measured (whole_text _ _ _) c.requires _ _ _ c.put_sheet.ensures)

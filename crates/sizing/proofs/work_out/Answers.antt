@@ -1,96 +1,19 @@
 -- `work_out` meets its contract: what was read decides, and what is given of the tables. Assumes nothing.
-use mathlib.Core.Path.{◌≡◌, sym, ◌∙◌}
-use Prim.Native.Nat.{ℕ, ◌*◌, ◌≤◌}
-use native.Mathlib.Omega.{arith}
-use lib.ListN.{length}
-use lib.Seq.{length-take-le}
-use Rattle.field.specs.Read.{Read.got}
-use Rattle.field.specs.Spelling.{AllBytes}
-use Rattle.expression.specs.Inner.Nodes.{per_node}
-use Rattle.sheet.specs.Sheet.{clocks_most, links_most}
-use Rattle.sheet.specs.Reader.{read_sheet}
-use Rattle.sheet.specs.SheetRead.{SheetRead}
-use Rattle.reading.specs.Inner.Sections.{found_of}
-use Rattle.sizing.proofs.Outcome.{reading_refused, reading_got, out_refused, not_read, clocks_few, links_few, ready, out_given}
+use mathlib.Core.Path.{sym}
+use Rattle.std.proofs.lemmas.Result.{err_from_is_err_and}
+use Rattle.sizing.specs.Inner.Rows.{FoundIn}
+use Rattle.sizing.proofs.Outcome.{out_refused, found_given}
 use Rattle.sizing.proofs.work_out.Goals as goal
 
-pub overflow_mul-nodes : goal.overflow_mul-nodes
-overflow_mul-nodes c =
-    let whole : (o : SheetRead) × (d : ℕ) × (read_sheet c.args.sheet.now ≡ got o d) × (found_of o ≡ c.in-Got.f) = reading_got _ _ (sym c.in-Got.is ∙ c.read.ensures.found) in
-    let bytes : AllBytes c.args.sheet.now = λ j. (c.type_inv.sheet j).fits in
-    let few : c.in-Got.f.clocks ≤ clocks_most = clocks_few _ bytes whole.0 whole.1 whole.2 _ whole.3 in
-    record { fits = omega (arith, few) }
+pub returns-in_err-found : goal.returns-in_err-found
+returns-in_err-found c = let p = err_from_is_err_and c.from_residual.result c.from_residual.ensures.1 in
+    rw (p.1, p.2) (out_refused _ _ _ _ (sym c.in_err-found.ensures.found))
 
-pub overflow_mul-pairs : goal.overflow_mul-pairs
-overflow_mul-pairs c =
-    let whole : (o : SheetRead) × (d : ℕ) × (read_sheet c.args.sheet.now ≡ got o d) × (found_of o ≡ c.in-Got.f) = reading_got _ _ (sym c.in-Got.is ∙ c.read.ensures.found) in
-    let bytes : AllBytes c.args.sheet.now = λ j. (c.type_inv.sheet j).fits in
-    let few_links : c.in-Got.f.links ≤ links_most = links_few _ bytes whole.0 whole.1 whole.2 _ whole.3 in
-    record { fits = omega (arith, few_links) }
+pub of-requires : goal.of-requires
+of-requires c = (c.args.sheet.now, record { bytes = λ j. (c.type_inv.sheet j).fits; told = sym c.in_ok-found.ensures.found; tabled = c.in_ok-found.ensures.tables })
 
-pub slice_bounds-table-end : goal.slice_bounds-table-end
-slice_bounds-table-end c =
-    let whole : (o : SheetRead) × (d : ℕ) × (read_sheet c.args.sheet.now ≡ got o d) × (found_of o ≡ c.in-Got.f) = reading_got _ _ (sym c.in-Got.is ∙ c.read.ensures.found) in
-    let bytes : AllBytes c.args.sheet.now = λ j. (c.type_inv.sheet j).fits in
-    let few : c.in-Got.f.clocks ≤ clocks_most = clocks_few _ bytes whole.0 whole.1 whole.2 _ whole.3 in
-    let table_fits : per_node * c.in-Got.f.clocks ≤ length c.read.new.table = omega (arith, few, c.read.auto.table) in
-    table_fits
-
-pub slice_bounds-give-end : goal.slice_bounds-give-end
-slice_bounds-give-end c =
-    let whole : (o : SheetRead) × (d : ℕ) × (read_sheet c.args.sheet.now ≡ got o d) × (found_of o ≡ c.in-Got.f) = reading_got _ _ (sym c.in-Got.is ∙ c.read.ensures.found) in
-    let bytes : AllBytes c.args.sheet.now = λ j. (c.type_inv.sheet j).fits in
-    let few : c.in-Got.f.clocks ≤ clocks_most = clocks_few _ bytes whole.0 whole.1 whole.2 _ whole.3 in
-    let table_fits : per_node * c.in-Got.f.clocks ≤ length c.read.new.table = omega (arith, few, c.read.auto.table) in
-    sym (length-take-le _ _ (table_fits))
-
-pub slice_bounds-states-end : goal.slice_bounds-states-end
-slice_bounds-states-end c =
-    let whole : (o : SheetRead) × (d : ℕ) × (read_sheet c.args.sheet.now ≡ got o d) × (found_of o ≡ c.in-Got.f) = reading_got _ _ (sym c.in-Got.is ∙ c.read.ensures.found) in
-    let bytes : AllBytes c.args.sheet.now = λ j. (c.type_inv.sheet j).fits in
-    let few : c.in-Got.f.clocks ≤ clocks_most = clocks_few _ bytes whole.0 whole.1 whole.2 _ whole.3 in
-    let states_fit : c.in-Got.f.clocks ≤ length c.read.new.states = omega (arith, few, c.read.auto.states) in
-    states_fit
-
-pub slice_bounds-give-end-in-Got : goal.slice_bounds-give-end-in-Got
-slice_bounds-give-end-in-Got c =
-    let whole : (o : SheetRead) × (d : ℕ) × (read_sheet c.args.sheet.now ≡ got o d) × (found_of o ≡ c.in-Got.f) = reading_got _ _ (sym c.in-Got.is ∙ c.read.ensures.found) in
-    let bytes : AllBytes c.args.sheet.now = λ j. (c.type_inv.sheet j).fits in
-    let few : c.in-Got.f.clocks ≤ clocks_most = clocks_few _ bytes whole.0 whole.1 whole.2 _ whole.3 in
-    let states_fit : c.in-Got.f.clocks ≤ length c.read.new.states = omega (arith, few, c.read.auto.states) in
-    sym (length-take-le _ _ (states_fit))
-
-pub slice_bounds-ends-end : goal.slice_bounds-ends-end
-slice_bounds-ends-end c =
-    let whole : (o : SheetRead) × (d : ℕ) × (read_sheet c.args.sheet.now ≡ got o d) × (found_of o ≡ c.in-Got.f) = reading_got _ _ (sym c.in-Got.is ∙ c.read.ensures.found) in
-    let bytes : AllBytes c.args.sheet.now = λ j. (c.type_inv.sheet j).fits in
-    let few_links : c.in-Got.f.links ≤ links_most = links_few _ bytes whole.0 whole.1 whole.2 _ whole.3 in
-    let ends_fit : 2 * c.in-Got.f.links ≤ length c.read.new.ends = omega (arith, few_links, c.read.auto.ends) in
-    ends_fit
-
-pub slice_bounds-give-end-in-Got-2 : goal.slice_bounds-give-end-in-Got-2
-slice_bounds-give-end-in-Got-2 c =
-    let whole : (o : SheetRead) × (d : ℕ) × (read_sheet c.args.sheet.now ≡ got o d) × (found_of o ≡ c.in-Got.f) = reading_got _ _ (sym c.in-Got.is ∙ c.read.ensures.found) in
-    let bytes : AllBytes c.args.sheet.now = λ j. (c.type_inv.sheet j).fits in
-    let few_links : c.in-Got.f.links ≤ links_most = links_few _ bytes whole.0 whole.1 whole.2 _ whole.3 in
-    let ends_fit : 2 * c.in-Got.f.links ≤ length c.read.new.ends = omega (arith, few_links, c.read.auto.ends) in
-    sym (length-take-le _ _ (ends_fit))
-
-pub give-requires : goal.give-requires
-give-requires c =
-    let whole : (o : SheetRead) × (d : ℕ) × (read_sheet c.args.sheet.now ≡ got o d) × (found_of o ≡ c.in-Got.f) = reading_got _ _ (sym c.in-Got.is ∙ c.read.ensures.found) in
-    let bytes : AllBytes c.args.sheet.now = λ j. (c.type_inv.sheet j).fits in
-    let w = whole in
-    ready _ (bytes) w.0 w.1 w.2 _ w.3 _ _ _ c.read.ensures.tables
-
-pub returns-in-Refused : goal.returns-in-Refused
-returns-in-Refused c = out_refused _ _ _ _ _ _
-    (not_read _ _ _ _ _ (reading_refused _ _ _ (sym c.in-Refused.is ∙ c.read.ensures.found)))
-    c.refuse.ensures
-
-pub returns-in-Got : goal.returns-in-Got
-returns-in-Got c =
-    let whole : (o : SheetRead) × (d : ℕ) × (read_sheet c.args.sheet.now ≡ got o d) × (found_of o ≡ c.in-Got.f) = reading_got _ _ (sym c.in-Got.is ∙ c.read.ensures.found) in
-    let bytes : AllBytes c.args.sheet.now = λ j. (c.type_inv.sheet j).fits in
-    let w = whole in
-    out_given _ (bytes) w.0 w.1 w.2 _ w.3 _ _ _ c.read.ensures.tables _ _ _ _ _ c.give.ensures
+pub returns : goal.returns
+returns c =
+    let found : FoundIn c.args.sheet.now c.in_ok-found.found c.read.new.tables.nodes c.read.new.tables.states c.read.new.tables.ends =
+    record { bytes = λ j. (c.type_inv.sheet j).fits; told = sym c.in_ok-found.ensures.found; tabled = c.in_ok-found.ensures.tables } in
+    found_given _ _ _ _ _ found _ _ _ (c.of.ensures _ found) _ _ _ _ _ c.give.ensures

@@ -1,16 +1,20 @@
 -- The links' rows, from the tables that reading left, and what is given of them.
-use Rattle.std.specs.Prelude.{◌≡◌, List, map, ℕ, ◌+◌, ◌*◌, ◌≤◌, ◌<◌, ℤ, length, get_or}
+use Rattle.std.specs.Prelude.{◌≡◌, List, map, ℕ, ◌+◌, ◌*◌, ◌≤◌, ◌<◌, ℤ, length, get_or, Result, Ok}
 use Rattle.envelope.specs.declared.Node.{Node}
 use Rattle.link.specs.declared.Row.{Row}
 use Rattle.link.specs.Link.{state_of, open_size_of}
 use Rattle.expression.specs.Inner.Nodes.{per_node, nodes_in, HoldsNodes}
 use Rattle.sizing.specs.declared.Rooms.{Rooms}
-use Rattle.sizing.specs.declared.Reply.{Reply}
+use Rattle.reply.specs.declared.Refusal.{Refusal}
+use Rattle.sizing.specs.declared.Totals.{Totals}
 use Rattle.sheet.specs.Sheet.{Link, clocks_most, links_most}
+use Rattle.sheet.specs.Reader.{read_sheet}
 use Rattle.sheet.specs.SheetRead.{SheetRead}
 use Rattle.sizing.specs.Rooms.{verdict_in, total, size_of_row}
 use Rattle.sizing.specs.WorkOut.{room_for, reply_of, clocks_out, links_out}
-use Rattle.reading.specs.Inner.Sections.{links_of, state_of_clock}
+use Rattle.field.specs.Spelling.{AllBytes}
+use Rattle.reading.specs.declared.Found.{Found}
+use Rattle.reading.specs.Inner.Sections.{links_of, state_of_clock, reading_of, Tabled}
 
 abbrev pub row_at : List Node → List ℕ → Link → Row
 row_at xs ss l =
@@ -40,13 +44,23 @@ pub record Ready (t : List ℤ) (ss es : List ℕ) (n : ℕ) : Type 0 where
   pub pairs : length es ≡ 2 * n
   pub there : (j : ℕ) → j < length es → get_or es j 0 < length ss
 
--- what is given of a sheet whose clocks' nodes, states and links' ends stand in the tables
-abbrev pub Given : List ℤ → List ℕ → List ℕ → List ℤ → List ℤ → Reply → List ℤ → List ℤ → Type 0
+-- a sheet's bytes, of which the reader found f and left the tables
+pub record FoundIn (s : List ℕ) (f : Found) (t : List ℤ) (ss es : List ℕ) : Type 0 where
+  pub bytes : AllBytes s
+  pub told : reading_of (read_sheet s) ≡ Ok f
+  pub tabled : Tabled (read_sheet s) t ss es
+
+-- its clocks' nodes, states and links' ends stand in the tables
+pub record Shows (o : SheetRead) (t : List ℤ) (ss es : List ℕ) : Type 0 where
+  pub nodes : nodes_in t ≡ o.table
+  pub states : ss ≡ map state_of_clock o.sheet.clocks
+  pub links : links_of es ≡ o.sheet.links
+
+-- what is given of a sheet that the tables show
+abbrev pub Given : List ℤ → List ℕ → List ℕ → List ℤ → List ℤ → Result Totals Refusal → List ℤ → List ℤ → Type 0
 Given t ss es clocks links r clocks_end links_end =
     (o : SheetRead) (c : ℕ)
-    → nodes_in t ≡ o.table
-    → ss ≡ map state_of_clock o.sheet.clocks
-    → links_of es ≡ o.sheet.links
+    → Shows o t ss es
     → (r ≡ reply_of (room_for (length clocks) (length links) o c))
     × (clocks_end ≡ clocks_out (room_for (length clocks) (length links) o c) clocks)
     × (links_end ≡ links_out (room_for (length clocks) (length links) o c) links)

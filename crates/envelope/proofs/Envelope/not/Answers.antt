@@ -15,8 +15,6 @@ use Rattle.envelope.proofs.Held.{n_small, k_up, k_down, K_up, K_down, k_held, K_
 use Rattle.envelope.proofs.Envelope.not.Goals as goal
 
 module _ (e : Envelope) (t : Taken e) where
-  -- `Envelope::not` meets its contract.
-  -- Assumes nothing.
   limits : Limits e
   limits = t.limits
 
