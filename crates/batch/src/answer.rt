@@ -24,8 +24,12 @@ pub fn put_reply(out: &mut [u8], number: u8, place: u64)
     put_low_first(out, 1, 8, place);
 }
 
-pub fn put_refusal(out: &mut [u8], refusal: Refusal)
+// 0 and a place, or a refusal's number and place.
+pub fn put_outcome(out: &mut [u8], outcome: Result<usize, Refusal>)
     requires { 9 ≤ length out.old }
 {
-    put_reply(out, refusal.number(), refusal.place as u64);
+    match outcome {
+        Ok(place) => put_reply(out, 0, place as u64),
+        Err(refusal) => put_reply(out, refusal.number(), refusal.place as u64),
+    }
 }

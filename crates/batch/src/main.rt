@@ -6,7 +6,7 @@ mod case;
 
 ghost use Rattle.std.specs.Prelude.{◌≡◌, ◌≤◌, ◌≤ℤ◌, pos, negsuc, length};
 
-use answer::{put_all, put_refusal, put_reply};
+use answer::{put_all, put_outcome, put_reply};
 use case::{Ask, Op, Stop, Turn, head, limited, read};
 use envelope::Envelope;
 use field::{HALF_64, from_twos, low_first, put_low_first};
@@ -61,10 +61,7 @@ fn lend(numbers: &mut [i64], first: i64)
 fn put_worked(out: &mut [u8], r: Result<Totals, Refusal>)
     requires { 41 ≤ length out.old }
 {
-    match r {
-        Ok(_) => put_reply(out, 0, 0),
-        Err(refusal) => put_refusal(out, refusal),
-    }
+    put_outcome(out, r.map(|_| 0));
     let totals = r.unwrap_or(NOTHING);
     put_low_first(out, 9, 8, totals.clocks as u64);
     put_low_first(out, 17, 8, totals.links as u64);
@@ -106,10 +103,8 @@ fn close(rt: &HostRuntime, out: &mut [u8; ANSWER]) -> Turn {
     let clock = low_first(&head, 0, 8);
     let end = REPLY + limited(low_first(&head, 8, 4), BODY)?;
     read(rt, &mut out[REPLY..end])?;
-    match register::close(&mut out[REPLY..end], clock) {
-        Ok(at) => put_reply(out, 0, at as u64),
-        Err(refusal) => put_refusal(out, refusal),
-    }
+    let closed = register::close(&mut out[REPLY..end], clock);
+    put_outcome(out, closed);
     send(rt, &out[..end])
 }
 
@@ -117,12 +112,12 @@ fn close(rt: &HostRuntime, out: &mut [u8; ANSWER]) -> Turn {
 fn put_quoting(out: &mut [u8], sheet: &[u8], clock: usize, part: &[u8])
     requires { 9 ≤ length out.old }
 {
-    put_reply(out, 0, 0);
-    if part.is_empty() {
-        if let Err(refusal) = register::quote_reply(sheet, clock) {
-            put_refusal(out, refusal);
-        }
-    }
+    let quoted = if part.is_empty() {
+        register::quote_reply(sheet, clock)
+    } else {
+        Ok(())
+    };
+    put_outcome(out, quoted.map(|_| 0));
 }
 
 // The part is written from where it stands. Apart from `quote`, since the check does not cover a part of what was lent to be read into.
@@ -146,9 +141,8 @@ fn put_answer(out: &mut [u8], answer: Result<Answer, Refusal>)
     requires { 9 ≤ length out.old }
 {
     match answer {
-        Ok(Answer::Inside | Answer::Done) => put_reply(out, 0, 0),
         Ok(Answer::Last) => put_reply(out, LAST, 0),
-        Err(refusal) => put_refusal(out, refusal),
+        _ => put_outcome(out, answer.map(|_| 0)),
     }
 }
 
@@ -183,10 +177,7 @@ fn lend_text(text: &mut [u8]) {
 fn put_listed(out: &mut [u8], listed: Result<usize, Refusal>)
     requires { 17 ≤ length out.old }
 {
-    match listed {
-        Ok(_) => put_reply(out, 0, 0),
-        Err(refusal) => put_refusal(out, refusal),
-    }
+    put_outcome(out, listed.map(|_| 0));
     put_low_first(out, REPLY, 8, listed.unwrap_or(0) as u64);
 }
 

@@ -16,7 +16,7 @@ use Rattle.sizing.specs.declared.Rooms.{Rooms}
 use Rattle.sheet.specs.Reader.{read_sheet}
 use Rattle.sheet.specs.SheetRead.{SheetRead}
 use Rattle.reading.specs.Inner.Sections.{reading_of}
-use Rattle.sizing.specs.Inner.Rows.{FoundIn, Shows}
+use Rattle.sizing.specs.Inner.Rows.{FoundIn, InTables}
 use Rattle.sizing.proofs.Outcome.{rows_are}
 use Rattle.line.specs.Text.{Out, top, put, put_line, Put}
 use Rattle.line.specs.declared.Writer.{Writer}
@@ -74,7 +74,7 @@ module _ (s : List ℕ) where
   was_read (refused number place) f h = absurd (cc)
 
   -- where the tables show the sheet, theirs is its text
-  module _ {f : Found} {t : List ℤ} {ss es : List ℕ} (h : FoundIn s f t ss es) (t' : List ℤ) (ss' es' : List ℕ) (shown : (o : SheetRead) (c : ℕ) → read_sheet s ≡ got o c → Shows o t' ss' es') where
+  module _ {f : Found} {t : List ℤ} {ss es : List ℕ} (h : FoundIn s f t ss es) (t' : List ℤ) (ss' es' : List ℕ) (shown : (o : SheetRead) (c : ℕ) → read_sheet s ≡ got o c → InTables o t' ss' es') where
     text_is : (o : SheetRead) × (c : ℕ) × (read_sheet s ≡ got o c) × (table_text t' ss' es' ≡ sheet_text o)
     text_is =
         let w = was_read (read_sheet s) f h.told in

@@ -32,7 +32,7 @@ use Rattle.sheet.specs.SheetRead.{SheetRead}
 use Rattle.sizing.specs.Rooms.{state_in, row_of, rows_of, open_room, whole_room, verdict_in}
 use Rattle.sizing.specs.WorkOut.{room_for, worked_of, reply_of, clock_numbers, link_numbers, flatten, clocks_out, links_out, WorksOut}
 use Rattle.reading.specs.Inner.Sections.{flat_links, links_of, found_of, reading_of, state_of_clock, Tabled}
-use Rattle.sizing.specs.Inner.Rows.{row_at, rows_in, rooms_over, Ready, FoundIn, Shows, Given}
+use Rattle.sizing.specs.Inner.Rows.{row_at, rows_in, rooms_over, Ready, FoundIn, InTables, Given}
 use Rattle.sheet.proofs.Spelling.Sheets.{Opens, sheet_reads}
 use Rattle.reading.proofs.Sections.LinkTable.{flat_length, links_flat, ends_small, links_many}
 use Rattle.reading.proofs.Sections.NodeTables.{lent_holds, lent_nodes}
@@ -137,7 +137,7 @@ module _ (s : List ℕ) (bytes : AllBytes s) (o : SheetRead) (c : ℕ) (read : r
               (ends_small (length o.sheet.clocks) [] o.sheet.links q.legal.links_legal);
         }
 
-    shows : Shows o (take (per_node * f.clocks) t) (take f.clocks ss) (take (2 * f.links) es)
+    shows : InTables o (take (per_node * f.clocks) t) (take f.clocks ss) (take (2 * f.links) es)
     shows = record { nodes = table_is; states = states; links = links_is }
 
 -- ---- what is given: by the room that was lent
@@ -146,7 +146,7 @@ short_is = ap (λ (k : Cause). Err (record { cause = k; place = 0 })) (sym (caus
 
 module _ (t : List ℤ) (ss es : List ℕ) (n : ℕ) (ready : Ready t ss es n) (x l : List ℤ) where
   given_by : (r : Result Totals Refusal) (x' l' : List ℤ)
-      → ((o : SheetRead) → Shows o t ss es → length ss ≡ length o.table → n ≡ length o.sheet.links
+      → ((o : SheetRead) → InTables o t ss es → length ss ≡ length o.table → n ≡ length o.sheet.links
       → (c : ℕ) → (X : Read SheetRead) × (room_for (length x) (length l) o c ≡ X) × (r ≡ reply_of X) × (x' ≡ clocks_out X x) × (l' ≡ links_out X l))
       → Given t ss es x l r x' l'
   given_by r x' l' go o c h =
@@ -192,14 +192,14 @@ module _ (s : List ℕ) (f : Found) (t : List ℤ) (ss es : List ℕ) (h : Found
   pub found_ready : Ready (take (per_node * f.clocks) t) (take f.clocks ss) (take (2 * f.links) es) f.links
   found_ready = let w = found_sheet in ready s h.bytes w.0 w.1 w.2 f w.3 t ss es h.tabled
 
-  pub found_shows : (o : SheetRead) (c : ℕ) → read_sheet s ≡ got o c → Shows o (take (per_node * f.clocks) t) (take f.clocks ss) (take (2 * f.links) es)
-  found_shows o c e =
+  pub found_in_tables : (o : SheetRead) (c : ℕ) → read_sheet s ≡ got o c → InTables o (take (per_node * f.clocks) t) (take f.clocks ss) (take (2 * f.links) es)
+  found_in_tables o c e =
       let told : reading_of (got o c) ≡ Ok f = ap reading_of (sym e) ∙ h.told in
       let is : found_of o ≡ f = cc in
       shows s h.bytes o c e f is t ss es h.tabled
 
   -- what is given of tables that show the sheet is what working it out gives
-  pub found_given : (t' : List ℤ) (ss' es' : List ℕ) → ((o : SheetRead) (c : ℕ) → read_sheet s ≡ got o c → Shows o t' ss' es')
+  pub found_given : (t' : List ℤ) (ss' es' : List ℕ) → ((o : SheetRead) (c : ℕ) → read_sheet s ≡ got o c → InTables o t' ss' es')
       → (x x' l l' : List ℤ) (r : Result Totals Refusal) → Given t' ss' es' x l r x' l' → WorksOut s x l r x' l'
   unfolding worked_of
   found_given t' ss' es' shown x x' l l' r g =

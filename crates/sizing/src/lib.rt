@@ -11,7 +11,7 @@ ghost use Rattle.sheet.specs.Reader.{read_sheet};
 ghost use Rattle.sheet.specs.SheetRead.{SheetRead};
 ghost use Rattle.sizing.specs.WorkOut.{clock_numbers, link_numbers, flatten, WorksOut};
 ghost use Rattle.reading.specs.Inner.Sections.{links_of, link_in};
-ghost use Rattle.sizing.specs.Inner.Rows.{row_at, Ready, FoundIn, Shows, rows_in, rooms_over, rooms_with, Given};
+ghost use Rattle.sizing.specs.Inner.Rows.{row_at, Ready, FoundIn, InTables, rows_in, rooms_over, rooms_with, Given};
 
 use envelope::Node;
 use expression::{PER_NODE, entry};
@@ -39,7 +39,7 @@ impl<'a> Rows<'a> {
     pub fn of(tables: &'a Tables, found: Found) -> Rows<'a>
         requires { (s : List ℕ) × FoundIn s found tables.now.nodes tables.now.states tables.now.ends }
         ensures { (s : List ℕ) → FoundIn s found tables.now.nodes tables.now.states tables.now.ends
-            → (o : SheetRead) (c : ℕ) → read_sheet s ≡ got o c → Shows o result.nodes.now result.states.now result.ends.now }
+            → (o : SheetRead) (c : ℕ) → read_sheet s ≡ got o c → InTables o result.nodes.now result.states.now result.ends.now }
     {
         Rows {
             nodes: &tables.nodes[..PER_NODE * found.clocks],

@@ -51,7 +51,7 @@ pub record FoundIn (s : List ℕ) (f : Found) (t : List ℤ) (ss es : List ℕ) 
   pub tabled : Tabled (read_sheet s) t ss es
 
 -- its clocks' nodes, states and links' ends stand in the tables
-pub record Shows (o : SheetRead) (t : List ℤ) (ss es : List ℕ) : Type 0 where
+pub record InTables (o : SheetRead) (t : List ℤ) (ss es : List ℕ) : Type 0 where
   pub nodes : nodes_in t ≡ o.table
   pub states : ss ≡ map state_of_clock o.sheet.clocks
   pub links : links_of es ≡ o.sheet.links
@@ -60,7 +60,7 @@ pub record Shows (o : SheetRead) (t : List ℤ) (ss es : List ℕ) : Type 0 wher
 abbrev pub Given : List ℤ → List ℕ → List ℕ → List ℤ → List ℤ → Result Totals Refusal → List ℤ → List ℤ → Type 0
 Given t ss es clocks links r clocks_end links_end =
     (o : SheetRead) (c : ℕ)
-    → Shows o t ss es
+    → InTables o t ss es
     → (r ≡ reply_of (room_for (length clocks) (length links) o c))
     × (clocks_end ≡ clocks_out (room_for (length clocks) (length links) o c) clocks)
     × (links_end ≡ links_out (room_for (length clocks) (length links) o c) links)

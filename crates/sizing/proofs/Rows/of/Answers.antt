@@ -1,6 +1,6 @@
 -- `Rows::of` meets its contract: what was found lies within the tables, and is ready. Assumes nothing.
 use native.Mathlib.Omega.{arith}
-use Rattle.sizing.proofs.Outcome.{found_few, found_ready, found_shows}
+use Rattle.sizing.proofs.Outcome.{found_few, found_ready, found_in_tables}
 use Rattle.sizing.proofs.Rows.of.Goals as goal
 
 pub overflow_mul-result : goal.overflow_mul-result
@@ -22,4 +22,4 @@ pub invariant_of-result : goal.invariant_of-result
 invariant_of-result c = record { ready = found_ready _ _ _ _ _ c.requires.1 }
 
 pub returns : goal.returns
-returns c = λ s h. found_shows s _ _ _ _ h
+returns c = λ s h. found_in_tables s _ _ _ _ h
