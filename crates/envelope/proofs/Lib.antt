@@ -12,5 +12,6 @@ pub mod Word
 pub mod Taken
 pub mod Tests
 pub mod Makings
+pub mod MadeTaken
 pub mod Held
 pub mod Theory

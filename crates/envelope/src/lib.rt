@@ -1,7 +1,7 @@
 // Envelopes: their limits, the rules that make them, and what a node of an expression comes to.
 #![tactic(auto)]
 
-ghost use Rattle.std.specs.Prelude.{◌≡◌, ◌-◌, ◌*◌, ◌≤◌, ◌<◌, ◌^◌, pos, ◌+ℤ◌, ◌*ℤ◌, ◌≤ℤ◌};
+ghost use Rattle.std.specs.Prelude.{◌≡◌, ◌-◌, ◌*◌, ◌≤◌, ◌<◌, ◌^◌, pos, ◌+ℤ◌, ◌*ℤ◌, ◌≤ℤ◌, IfOk};
 ghost use Rattle.envelope.specs.Limits.{l_most, lower_least, lower_most};
 ghost use Rattle.envelope.specs.Envelope.{Limits, within_limits, has_room, Taken, before_start, result_of, normal_of, not_of, on_of};
 ghost use Rattle.envelope.specs.Made.{Fields, number_of, declared_of, limited, negated_of, on_within_limits};
@@ -158,7 +158,8 @@ impl Envelope {
     #[tactic(auto, unfolding(crate::specs::Made::declared_of))]
     pub fn declared(k: i64, K: i64, l: u64, n: u64) -> Made
         requires { Fields k K l n }
-        ensures { result ≡ declared_of k K l n }
+        ensures value { result ≡ declared_of k K l n }
+        ensures taken { IfOk result (λ x. Taken x.envelope) }
     {
         let e = Envelope::normal(k, K, l, n);
         if e.has_room() {
@@ -180,7 +181,8 @@ impl Envelope {
     #[tactic(auto, unfolding(crate::specs::Made::negated_of))]
     pub fn negated(self) -> Made
         requires { Taken self }
-        ensures { result ≡ negated_of self }
+        ensures value { result ≡ negated_of self }
+        ensures taken { IfOk result (λ x. Taken x.envelope) }
     {
         if self.l == self.n {
             return Err(Flaw::FullRate);
@@ -188,10 +190,11 @@ impl Envelope {
         self.not().limited_to()
     }
 
-    #[tactic(auto, unfolding(crate::specs::Made::on_within_limits))]
+    #[tactic(auto, using(crate::proofs::MadeTaken::on_made), unfolding(crate::specs::Made::on_within_limits))]
     pub fn on_within_limits(self, b: Envelope) -> Made
         requires { Taken self × Taken b }
-        ensures { result ≡ on_within_limits self b }
+        ensures value { result ≡ on_within_limits self b }
+        ensures taken { IfOk result (λ x. Taken x.envelope) }
     {
         self.on(b).limited_to()
     }

@@ -29,18 +29,15 @@ use Rattle.expression.specs.Expression.{Expr}
 use Rattle.expression.specs.Evaluate.{Worth, worth_of}
 use Rattle.expression.specs.Reader.{expr_at, node_in}
 use Rattle.expression.specs.Format.{Valued, tag, found, named, parts, expression}
-use Rattle.expression.specs.Inner.Nodes.{HoldsNodes, nodes_in, node_at}
-use Rattle.expression.specs.Inner.Parts.{placed, listed_at, declared_at}
-use Rattle.expression.proofs.Lookup.{lookup_below, lookup_none}
-use Rattle.expression.proofs.Tables.{nodes_many, node_at_lem}
+use Rattle.expression.specs.Inner.Parts.{placed, there, listed_at, declared_at}
 use Rattle.expression.proofs.Fields.{declared_worth_lem, fields_read}
 use Rattle.expression.proofs.Format.{complete}
 use Rattle.expression.proofs.Evaluated.{evaluate_taken}
 use Rattle.expression.proofs.Reader.{accepted}
 
 -- the node of an expression at a with d levels left, or the refusal
-abbrev pub answer : List ℕ → List ℤ → List ℤ → ℕ → ℕ → Read Node
-answer s ws cs d a = mapped node_in (expr_at d s (nodes_in ws) (nodes_in cs) a)
+abbrev pub answer : List ℕ → List Node → List Node → ℕ → ℕ → Read Node
+answer s ws cs d a = mapped node_in (expr_at d s ws cs a)
 
 -- the node alone of what stands behind a tag at a
 abbrev alone : ℕ → Read (Expr × Made) → Read Node
@@ -60,22 +57,17 @@ step a r q go to e h = ap (λ (r : Read _). alone a (bind r go)) e ∙ by q h
     by (refused number p) h = refl
 
 module _ (s : List ℕ) where
-  -- an index names a node of a table where it is below their number
-  table_at : (make : ℕ → Expr) (t : List ℤ) (a c : ℕ) → alone a (run (named make (nodes_in t)) s c) ≡ listed_at s t c
-  unfolding run listed_at field_in
+  -- an index names a node of a table where there is one
+  table_at : (make : ℕ → Expr) (t : List Node) (a c : ℕ) → alone a (run (named make t) s c) ≡ listed_at s t c
+  unfolding run listed_at
   table_at make t a c = by (field_at 2 s c)
     where
-      at : (i d : ℕ) (o : Option Node) → get_elem? (nodes_in t) i ≡ o
-          → alone a (settled (found (make i) o) d c) ≡ (bind (cond (leb 0 i) (cond (ltb i (length t / 4)) (got i d) (refused absent c)) (refused absent c)) λ i d. got (node_at t i) d)
-      at i d none e = rw (le-leb 0 i (omega arith), le-ltb i (length t / 4) (omega (arith, lookup_none (nodes_in t) i e, nodes_many t)))
-      at i d (some x) e =
-          let l : i < length t / 4 = omega (arith, lookup_below (nodes_in t) i x e, nodes_many t) in
-          let z : x ≡ node_at t i = cc (e, node_at_lem t i (omega arith)) in
-          rw (le-leb 0 i (omega arith), lt-ltb i (length t / 4) l, z)
+      at : (i d : ℕ) (o : Option Node) → alone a (settled (found (make i) o) d c) ≡ there o d c
+      at i d none = refl
+      at i d (some x) = refl
 
-      by : (r : Read ℕ) → alone a (bind r λ i d. settled (found (make i) (get_elem? (nodes_in t) i)) d c)
-          ≡ (bind (bind r λ i d. cond (leb 0 i) (cond (ltb i (length t / 4)) (got i d) (refused absent c)) (refused absent c)) λ i d. got (node_at t i) d)
-      by (got i d) = at i d (get_elem? (nodes_in t) i) refl
+      by : (r : Read ℕ) → alone a (bind r λ i d. settled (found (make i) (get_elem? t i)) d c) ≡ (bind r λ i d. there (get_elem? t i) d c)
+      by (got i d) = at i d (get_elem? t i)
       by (refused number p) = refl
 
   declared_at_lem : (ws cs : List Node) (part : Format Valued) (a c : ℕ) → alone a (run (parts ws cs part Tag.Declared) s c) ≡ declared_at s a c
@@ -89,14 +81,7 @@ module _ (s : List ℕ) where
       ∙ ap (λ (w : Worth). placed w c₄ a) (sym (declared_worth_lem k K l n (fields_read k K l n s c c₁ c₂ c₃ c₄ r₁ r₂ r₃ r₄)))
 
 -- ---- an expression
-module _ (s : List ℕ) (ws cs : List ℤ) where
-  -- what it answers is taken
-  pub answer_taken : HoldsNodes ws → HoldsNodes cs → (d a : ℕ) (x : Node) (c : ℕ) → answer s ws cs d a ≡ got x c → Taken x.envelope
-  answer_taken hw hc d a x c h =
-      let r = mapped_got node_in (expr_at d s (nodes_in ws) (nodes_in cs) a) x c h in
-      let t = accepted s (nodes_in ws) (nodes_in cs) d a r.0 c r.1 in
-      subst (λ (y : Node). Taken y.envelope) r.2 (evaluate_taken (nodes_in ws) (nodes_in cs) hw.taken hc.taken r.0.expr r.0.node t.value)
-
+module _ (s : List ℕ) (ws cs : List Node) where
   -- what follows the tag at a, from c on, with d levels left for its parts
   abbrev pub follows : ℕ → ℕ → Tag → ℕ → Read Node
   follows d a Tag.Word c = listed_at s ws c
@@ -110,7 +95,7 @@ module _ (s : List ℕ) (ws cs : List ℤ) where
 
   module _ (d a : ℕ) where
     abbrev below : Format Valued
-    below = expression d (nodes_in ws) (nodes_in cs)
+    below = expression d ws cs
 
     one_part : (make : Expr → Expr) (rule : Envelope → Made) (r : Read Valued)
         → alone a (bind r λ x f. got (make x.expr, rule x.node.envelope) f) ≡ (bind (mapped node_in r) λ x f. placed (worth_of (rule x.envelope)) f a)
@@ -123,10 +108,10 @@ module _ (s : List ℕ) (ws cs : List ℤ) where
     two_parts make rule (got x f) q = one_part (make x.expr) (rule x.node.envelope) (q f)
     two_parts make rule (refused number p) q = refl
 
-    part_follows : (t : Tag) (c : ℕ) → alone a (run (parts (nodes_in ws) (nodes_in cs) below t) s c) ≡ follows d a t c
+    part_follows : (t : Tag) (c : ℕ) → alone a (run (parts ws cs below t) s c) ≡ follows d a t c
     unfolding run parts expr_at
     part_follows Tag.Word c = table_at s Expr.word ws a c
-    part_follows Tag.Declared c = declared_at_lem s (nodes_in ws) (nodes_in cs) below a c
+    part_follows Tag.Declared c = declared_at_lem s ws cs below a c
     part_follows Tag.Not c = one_part Expr.negated negated_of (run below s c)
     part_follows Tag.On c = two_parts Expr.on on_within_limits (run below s c) (run below s)
     part_follows Tag.Clock c = table_at s Expr.clock cs a c
@@ -141,6 +126,6 @@ module _ (s : List ℕ) (ws cs : List ℤ) where
       by (refused number p) = refl
   answer_is (suc d) a = rw (ne_eqb (suc d) 0 (λ e. absurd (omega arith)), sub-one) (by (run tag s a))
     where
-      by : (r : Read Tag) → alone a (bind r λ t c. run (parts (nodes_in ws) (nodes_in cs) (below d a) t) s c) ≡ (bind r λ t c. follows d a t c)
+      by : (r : Read Tag) → alone a (bind r λ t c. run (parts ws cs (below d a) t) s c) ≡ (bind r λ t c. follows d a t c)
       by (got t c) = part_follows d a t c
       by (refused number p) = refl

@@ -9,6 +9,5 @@ pub mod Free
 pub mod Blame
 pub mod Reader
 pub mod Promise
-pub mod Tables
 pub mod Answers
 pub mod Skips

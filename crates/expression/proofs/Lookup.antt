@@ -1,10 +1,10 @@
 -- Laws of entries of lists. Assumes nothing.
-use mathlib.Core.Path.{◌≡◌, refl, sym}
+use mathlib.Core.Path.{◌≡◌, refl, sym, ap}
 use mathlib.Core.List.{List, [], ◌∷◌, map}
 use mathlib.Core.Option.{Option, none, some}
 use Prim.Native.Nat.{ℕ, zero, suc, ◌≤◌, ◌<◌}
 use native.Mathlib.Omega.{arith}
-use lib.ListN.{length, take, get_elem?}
+use lib.ListN.{length, take, get_or, get_elem?}
 
 pub none_some : {A B : Type 0} {x : A} → ◌≡◌ {A = Option A} none (some x) → B
 none_some h = let z : ◌≡◌ {A = ℕ} 0 1 = cc in absurd (omega arith)
@@ -24,6 +24,17 @@ module _ {A : Type 0} where
   lookup_there [] i h = absurd (omega arith)
   lookup_there (y ∷ xs) zero h = (y, refl)
   lookup_there (y ∷ xs) (suc i) h = lookup_there xs i (omega arith)
+
+  -- what is read where there is one
+  pub lookup_at : (xs : List A) (i : ℕ) (x : A) → i < length xs → x ≡ get_or xs i x → get_elem? xs i ≡ some x
+  lookup_at [] i x h e = absurd (omega arith)
+  lookup_at (y ∷ xs) zero x h e = ap some (sym e)
+  lookup_at (y ∷ xs) (suc i) x h e = lookup_at xs i x (omega arith) e
+
+  pub lookup_past : (xs : List A) (i : ℕ) → length xs ≤ i → get_elem? xs i ≡ none
+  lookup_past [] i h = refl
+  lookup_past (x ∷ xs) zero h = absurd (omega arith)
+  lookup_past (x ∷ xs) (suc i) h = lookup_past xs i (omega arith)
 
   -- an entry of the first j
   pub lookup_take : (xs : List A) (j i : ℕ) (x : A) → get_elem? (take j xs) i ≡ some x → (i < j) × (get_elem? xs i ≡ some x)

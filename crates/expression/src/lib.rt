@@ -1,8 +1,9 @@
 // Expressions: the evaluator that calls itself, over tables of nodes that are lent and never copied.
 #![tactic(auto)]
 
-ghost use Rattle.std.specs.Prelude.{◌≡◌, ℕ, ◌+◌, ◌*◌, ◌<◌};
-ghost use Rattle.std.proofs.lemmas.List.Edits.{sets};
+mod entry;
+
+ghost use Rattle.std.specs.Prelude.{◌≡◌, ℕ, IfOk};
 ghost use Rattle.envelope.specs.Envelope.{Taken};
 ghost use Rattle.expression.specs.Evaluate.{worth_of};
 ghost use Rattle.field.specs.Field.{read_of};
@@ -10,11 +11,11 @@ ghost use Rattle.field.specs.Read.{mapped};
 ghost use Rattle.field.specs.Run.{run};
 ghost use Rattle.expression.specs.Format.{tags, tag_of, judged, tag};
 ghost use Rattle.expression.specs.Reader.{expr_at, node_in};
-ghost use Rattle.expression.specs.Inner.Nodes.{per_node, HasNode, flat, HoldsNodes, nodes_in, node_at};
 ghost use Rattle.expression.specs.Inner.Parts.{placed, listed_at, declared_at};
 ghost use Rattle.expression.specs.Inner.Skipping.{own_bytes, parts_of, HasExpr};
 
-use envelope::{Envelope, Made, Node};
+pub use entry::Entry;
+use envelope::{Envelope, Made};
 use field::{Cursor, Read};
 use reply::Cause;
 
@@ -79,62 +80,32 @@ impl Tag {
     }
 }
 
-// How many numbers a node has in a table: of 32 bits each, so that no memory but the stack is used, and half of what a `Node` takes.
-pub const PER_NODE: usize = 4;
-
 // What a rule made, with the cursor past the node, or its refusal at the node's tag.
-fn place(made: Made, c: Cursor, tag: Cursor) -> Read<Node>
+fn place(made: Made, c: Cursor, tag: Cursor) -> Read<Entry>
+    requires { IfOk made (λ x. Taken x.envelope) }
     ensures { read_of result ≡ placed (worth_of made) c.at tag.at }
 {
     match made {
-        Ok(x) => Ok((x, c)),
+        Ok(x) => Ok((Entry::of(x), c)),
         Err(flaw) => Err(tag.refusal(flaw.into())),
     }
 }
 
-// The node at index i of a table. By four reads: what std says of `as_chunks` did not prove the casts.
-pub fn entry(table: &[i32], i: usize) -> Node
-    requires { (HasNode table.now i) × HoldsNodes table.now }
-    ensures { result ≡ node_at table.now i }
-{
-    let at = PER_NODE * i;
-    Node {
-        envelope: Envelope {
-            k: table[at] as i64,
-            K: table[at + 1] as i64,
-            l: table[at + 2] as u64,
-            n: table[at + 3] as u64,
-        },
-    }
-}
-
-// The node, stored at index i of a table.
-pub fn store(x: Node, table: &mut [i32], i: usize)
-    requires { (HasNode table.old i) × Taken x.envelope }
-    ensures { table.new ≡ sets table.old (per_node * i) (flat x) }
-{
-    let e = x.envelope;
-    let at = PER_NODE * i;
-    // copy_from_slice of the four was tried: 18% slower, since it asks whether they overlap
-    table[at] = e.k as i32;
-    table[at + 1] = e.K as i32;
-    table[at + 2] = e.l as i32;
-    table[at + 3] = e.n as i32;
-}
-
 // A word or an earlier clock, by its index in a table.
 #[tactic(auto, unfolding(crate::specs::Inner::Parts::listed_at))]
-fn listed(c: Cursor, s: &[u8], table: &[i32]) -> Read<Node>
-    requires { HoldsNodes table.now }
+fn listed(c: Cursor, s: &[u8], table: &[Entry]) -> Read<Entry>
     ensures { read_of result ≡ listed_at s.now table.now c.at }
 {
-    let (i, c) = c.within(s, 2, 0, table.len() / PER_NODE, Cause::Absent)?;
-    Ok((entry(table, i), c))
+    let (i, next) = c.field(s, 2)?;
+    match table.get(i) {
+        Some(x) => Ok((*x, next)),
+        None => Err(c.refusal(Cause::Absent)),
+    }
 }
 
 // A declared node, whose tag stands at `tag`.
 #[tactic(auto, unfolding(crate::specs::Inner::Parts::declared_at))]
-fn declared(c: Cursor, s: &[u8], tag: Cursor) -> Read<Node>
+fn declared(c: Cursor, s: &[u8], tag: Cursor) -> Read<Entry>
     ensures { read_of result ≡ declared_at s.now tag.at c.at }
 {
     let (k, c) = c.signed_within(s, Envelope::LOWER_LEAST, Envelope::LOWER_MOST)?;
@@ -145,9 +116,14 @@ fn declared(c: Cursor, s: &[u8], tag: Cursor) -> Read<Node>
 }
 
 // An expression, of which `depth` levels are left.
-pub fn evaluate(start: Cursor, s: &[u8], words: &[i32], clocks: &[i32], depth: usize) -> Read<Node>
-    requires { HoldsNodes words.now × HoldsNodes clocks.now }
-    ensures { read_of result ≡ mapped node_in (expr_at depth s.now (nodes_in words.now) (nodes_in clocks.now) start.at) }
+pub fn evaluate(
+    start: Cursor,
+    s: &[u8],
+    words: &[Entry],
+    clocks: &[Entry],
+    depth: usize,
+) -> Read<Entry>
+    ensures { read_of result ≡ mapped node_in (expr_at depth s.now words.now clocks.now start.at) }
 {
     let (tag, c) = Tag::read(start, s)?;
     if depth == 0 {
@@ -163,14 +139,14 @@ pub fn evaluate(start: Cursor, s: &[u8], words: &[i32], clocks: &[i32], depth: u
                 return left;
             };
             let made = if let Tag::Not = tag {
-                x.envelope.negated()
+                x.node().envelope.negated()
             } else {
                 let right = evaluate(c, s, words, clocks, depth - 1);
                 let Ok((y, next)) = right else {
                     return right;
                 };
                 c = next;
-                x.envelope.on_within_limits(y.envelope)
+                x.node().envelope.on_within_limits(y.node().envelope)
             };
             place(made, c, start)
         }

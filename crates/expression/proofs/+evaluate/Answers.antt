@@ -1,8 +1,7 @@
 -- What stands at the tag and in each part decides.
-use mathlib.Core.Path.{sym}
 use mathlib.Core.Logic.{inl, inr}
 use borrow.Author.Rules.{rules}
-use Rattle.expression.proofs.Answers.{answer_is, answer_taken}
+use Rattle.expression.proofs.Answers.{answer_is}
 use Rattle.expression.proofs.+evaluate.Goals as goal
 use Rattle.expression.proofs.+evaluate.Goals.{in-Not-tag, in_default-tag+in-Ok-right}
 
@@ -41,10 +40,3 @@ returns-after-tag-2 t c = elim c.match-tag-2.branch [
     | inr e ↦ rw (answer_is, ← c.in_ok-tag.ensures, e) (search rules)
   ]
 ]
-
-pub negated-made-requires : goal.negated-made-requires
-negated-made-requires t c = answer_taken _ _ _ c.requires.0 c.requires.1 _ _ _ _ (sym c.in-Ok.ensures)
-
-pub on_within_limits-made-requires : goal.on_within_limits-made-requires
-on_within_limits-made-requires t c =
-    (answer_taken _ _ _ c.requires.0 c.requires.1 _ _ _ _ (sym c.in-Ok.ensures), answer_taken _ _ _ c.requires.0 c.requires.1 _ _ _ _ (sym c.in-Ok-right.ensures))

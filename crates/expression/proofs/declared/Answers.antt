@@ -19,5 +19,5 @@ declared-requires c = let f = fields (goal.at.declared-requires c).In_ok-n in rw
 
 pub returns : goal.returns
 returns c = let f = fields (goal.at.returns c).In_ok-n in
-    rw (c.place.ensures, c.declared.ensures, k_held _ f.limits, K_held _ f.limits)
+    rw (c.place.ensures, c.declared.ensures.value, k_held _ f.limits, K_held _ f.limits)
     (sym (declared_read _ _ _ _ _ _ _ _ _ _ (sym c.in_ok-k.ensures) (sym c.in_ok-top.ensures) (sym c.in_ok-l.ensures) (sym c.in_ok-n.ensures) _))
