@@ -1,6 +1,7 @@
 // A node as tables keep it.
-ghost use Rattle.std.specs.Prelude.{◌≡◌};
-ghost use Rattle.envelope.specs.Envelope.{Taken};
+ghost use Rattle.std.specs.Prelude.{◌≡◌, pos};
+ghost use Rattle.envelope.specs.Envelope.{numbers, Taken};
+ghost use Rattle.envelope.specs.Made.{node_of};
 
 use envelope::{Envelope, Node};
 use std::marker::Model;
@@ -39,6 +40,18 @@ impl Entry {
             K: e.K as i32,
             l: e.l as u32,
             n: e.n as u32,
+        }
+    }
+
+    // Full rate from position 0 on: what a table holds before a node is stored.
+    pub fn full() -> Entry
+        ensures { result ≡ node_of (numbers (pos 0) (pos 0) 1 1) }
+    {
+        Entry {
+            k: 0,
+            K: 0,
+            l: 1,
+            n: 1,
         }
     }
 

@@ -1,15 +1,18 @@
 // Reads a design sheet once from left to right: words, clocks and links as sections of rows, each left in its table.
 #![tactic(auto)]
 
+mod ends;
+
 ghost use Rattle.std.specs.Prelude.{◌≡◌, [], ◌≤◌, pos, replicate};
-ghost use Rattle.expression.specs.Inner.Nodes.{HoldsNodes, nodes_in};
+ghost use Rattle.envelope.specs.Envelope.{numbers};
+ghost use Rattle.envelope.specs.Made.{node_of};
 ghost use Rattle.field.specs.Field.{read_of};
 ghost use Rattle.sheet.specs.Sheet.{clocks_most, links_most};
 ghost use Rattle.sheet.specs.Reader.{rows_at, section_at, clock_at, link_at, read_sheet};
-ghost use Rattle.reading.specs.Inner.Sections.{WordRows, ClockRows, marked_at, ends_of, reading_of, Tabled, LinkRows, ToEnd, FromClocks};
+ghost use Rattle.reading.specs.Inner.Sections.{WordRows, ClockRows, marked_at, reading_of, Tabled, LinkRows, ToEnd, FromClocks};
 
-use envelope::Node;
-use expression::{PER_NODE, evaluate, store};
+pub use ends::Ends;
+use expression::{Entry, evaluate};
 use field::{Cursor, Read};
 use reply::{Cause, Refusal};
 
@@ -26,14 +29,14 @@ pub const DEPTH_MOST: usize = 12;
 
 // The words section: how many words there are, and the cursor past them; their nodes are left in `table`.
 // A loop, as for clocks and links: nothing is known of a lent table after a closure stored in it, and a trait takes three structs and impls for four lines.
-fn read_words(start: Cursor, s: &[u8], table: &mut [i32; 256]) -> Read<usize>
+fn read_words(start: Cursor, s: &[u8], table: &mut [Entry; 64]) -> Read<usize>
     ensures { WordRows s.now start.at result table.new }
 {
     let (n, d) = start.within(s, 2, 0, WORDS_MOST + 1, Cause::Beyond)?;
     let mut c = d;
     for i in 0..n {
         let (x, next) = word::word(c, s)?;
-        store(x, table, i);
+        table[i] = Entry::of(x);
         c = next;
     }
     Ok((n, c))
@@ -43,14 +46,13 @@ fn read_words(start: Cursor, s: &[u8], table: &mut [i32; 256]) -> Read<usize>
 #[derive(Clone, Copy)]
 pub struct Mark {
     pub state: u8,
-    pub node: Node,
+    pub node: Entry,
 }
 
-// A clock, after those whose nodes are in `clocks`. Nodes stay slices that hold, here and below, since `evaluate` takes them so.
+// A clock, after those whose nodes are in `clocks`.
 #[tactic(auto, unfolding(crate::specs::Inner::Sections::marked_at))]
-fn clock(start: Cursor, s: &[u8], words: &[i32], clocks: &[i32]) -> Read<Mark>
-    requires { HoldsNodes words.now × HoldsNodes clocks.now }
-    ensures { read_of result ≡ marked_at s.now (nodes_in words.now) (nodes_in clocks.now) start.at }
+fn clock(start: Cursor, s: &[u8], words: &[Entry], clocks: &[Entry]) -> Read<Mark>
+    ensures { read_of result ≡ marked_at s.now words.now clocks.now start.at }
 {
     let (state, c) = start.within(s, 1, 0, 2, Cause::Unknown)?;
     let (node, d) = evaluate(c, s, words, clocks, DEPTH_MOST)?;
@@ -64,16 +66,15 @@ fn clock(start: Cursor, s: &[u8], words: &[i32], clocks: &[i32]) -> Read<Mark>
 }
 
 // n clocks: the cursor past them; their nodes and states are left in the tables.
-// A loop of its own: a clock also reads the table that it is stored in, so a function for rows of any kind would have to require this table's invariant.
-fn clock_rows(start: Cursor, s: &[u8], words: &[i32], n: usize, tables: &mut Tables) -> Read<usize>
-    requires { HoldsNodes words.now × (n ≤ clocks_most) }
-    ensures { ClockRows (rows_at (clock_at s.now (nodes_in words.now)) n [] start.at) result tables.new.nodes tables.new.states }
+// A loop of its own: a clock also reads the table that it is stored in.
+fn clock_rows(start: Cursor, s: &[u8], words: &[Entry], n: usize, tables: &mut Tables) -> Read<usize>
+    requires { n ≤ clocks_most }
+    ensures { ClockRows (rows_at (clock_at s.now words.now) n [] start.at) result tables.new.nodes tables.new.states }
 {
     let mut c = start;
     for i in 0..n {
-        let end = PER_NODE * i;
-        let (mark, next) = clock(c, s, words, &tables.nodes[..end])?;
-        store(mark.node, &mut tables.nodes, i);
+        let (mark, next) = clock(c, s, words, &tables.nodes[..i])?;
+        tables.nodes[i] = mark.node;
         tables.states[i] = mark.state;
         c = next;
     }
@@ -81,10 +82,8 @@ fn clock_rows(start: Cursor, s: &[u8], words: &[i32], n: usize, tables: &mut Tab
 }
 
 // The clocks section: how many clocks there are, and the cursor past them; their nodes and states are left in the tables.
-#[tactic(auto, using(crate::proofs::Sections::ClockTable::section_refused, crate::proofs::Sections::ClockTable::section_left))]
-fn read_clocks(start: Cursor, s: &[u8], words: &[i32], tables: &mut Tables) -> Read<usize>
-    requires { HoldsNodes words.now }
-    ensures { ClockRows (section_at (clock_at s.now (nodes_in words.now)) clocks_most s.now start.at) result tables.new.nodes tables.new.states }
+fn read_clocks(start: Cursor, s: &[u8], words: &[Entry], tables: &mut Tables) -> Read<usize>
+    ensures { ClockRows (section_at (clock_at s.now words.now) clocks_most s.now start.at) result tables.new.nodes tables.new.states }
 {
     let (n, c) = start.within(s, 2, 0, CLOCKS_MOST + 1, Cause::Beyond)?;
     clock_rows(c, s, words, n, tables)
@@ -92,26 +91,25 @@ fn read_clocks(start: Cursor, s: &[u8], words: &[i32], tables: &mut Tables) -> R
 
 // A link between two of n clocks.
 #[tactic(auto, unfolding(sheet::specs::Reader::link_at))]
-fn link_ends(start: Cursor, s: &[u8], n: usize) -> Read<(usize, usize)>
-    ensures { ends_of result ≡ link_at s.now n [] start.at }
+fn link_ends(start: Cursor, s: &[u8], n: usize) -> Read<Ends>
+    requires { n ≤ clocks_most }
+    ensures { read_of result ≡ link_at s.now n [] start.at }
 {
     let (i, c) = start.within(s, 2, 0, n, Cause::Absent)?;
     let (j, d) = c.within(s, 2, 0, n, Cause::Absent)?;
-    Ok(((i, j), d))
+    Ok((Ends::of(i, j), d))
 }
 
 // The links section: how many links there are between n clocks, and the cursor past them; their ends are left in `ends`.
-// A loop of its own: a link leaves two bytes and no node, so it shares the cursor's step alone with the others.
-fn read_links(start: Cursor, s: &[u8], n: usize, ends: &mut [u8; 512]) -> Read<usize>
+fn read_links(start: Cursor, s: &[u8], n: usize, ends: &mut [Ends; 256]) -> Read<usize>
     requires { n ≤ clocks_most }
     ensures { LinkRows (section_at (link_at s.now n) links_most s.now start.at) result ends.new }
 {
     let (many, d) = start.within(s, 2, 0, LINKS_MOST + 1, Cause::Beyond)?;
     let mut c = d;
     for i in 0..many {
-        let ((p, q), next) = link_ends(c, s, n)?;
-        ends[2 * i] = p as u8;
-        ends[2 * i + 1] = q as u8;
+        let (link, next) = link_ends(c, s, n)?;
+        ends[i] = link;
         c = next;
     }
     Ok((many, c))
@@ -128,20 +126,20 @@ pub struct Found {
 // What reading leaves of a sheet: its clocks' nodes and states, and its links' ends. They are lent, and never copied.
 #[derive(Drop)]
 pub struct Tables {
-    pub nodes: [i32; 512],
+    pub nodes: [Entry; 128],
     pub states: [u8; 128],
-    pub ends: [u8; 512],
+    pub ends: [Ends; 256],
 }
 
 impl Tables {
     // With nothing in them yet.
     pub fn empty() -> Tables
-        ensures { (result.nodes ≡ replicate 512 (pos 0)) × (result.states ≡ replicate 128 0) × (result.ends ≡ replicate 512 0) }
+        ensures { (result.nodes ≡ replicate 128 (node_of (numbers (pos 0) (pos 0) 1 1))) × (result.states ≡ replicate 128 0) × (result.ends ≡ replicate 256 (record { producer = 0; consumer = 0 })) }
     {
         Tables {
-            nodes: [0; 512],
+            nodes: [Entry::full(); 128],
             states: [0; 128],
-            ends: [0; 512],
+            ends: [Ends::of(0, 0); 256],
         }
     }
 }
@@ -152,7 +150,7 @@ fn read_to_end(
     start: Cursor,
     s: &[u8],
     m: usize,
-    ends: &mut [u8; 512],
+    ends: &mut [Ends; 256],
 ) -> Result<Found, Refusal>
     requires { m ≤ clocks_most }
     ensures { ToEnd s.now first start.at m result ends.new }
@@ -173,11 +171,10 @@ fn read_to_end(
 fn read_from_clocks(
     start: Cursor,
     s: &[u8],
-    words: &[i32],
+    words: &[Entry],
     tables: &mut Tables,
 ) -> Result<Found, Refusal>
-    requires { HoldsNodes words.now }
-    ensures { FromClocks s.now start.at (nodes_in words.now) result tables.new.nodes tables.new.states tables.new.ends }
+    ensures { FromClocks s.now start.at words.now result tables.new.nodes tables.new.states tables.new.ends }
 {
     let (m, c) = read_clocks(start, s, words, tables)?;
     read_to_end(start.at + 2, c, s, m, &mut tables.ends)
@@ -194,8 +191,7 @@ pub fn read(s: &[u8], tables: &mut Tables) -> Result<Found, Refusal>
             place: BYTES_MOST,
         });
     }
-    let mut list = [0i32; 256];
+    let mut list = [Entry::full(); 64];
     let (w, c) = read_words(Cursor { at: 0 }, s, &mut list)?;
-    let end = PER_NODE * w;
-    read_from_clocks(c, s, &list[..end], tables)
+    read_from_clocks(c, s, &list[..w], tables)
 }

@@ -1,35 +1,23 @@
 -- `clock_rows` meets its contract: the clocks so far are in the tables, and the others stand at the cursor.
 -- Assumes nothing.
 use Rattle.std.proofs.Common.{◌≡◌, Ok, refl, sym, arith}
-use Rattle.envelope.specs.Envelope.{Taken}
 use Rattle.word.proofs.Refusals.{read_passed_on}
-use Rattle.reading.proofs.Sections.NodeTables.{stored_holds}
-use Rattle.reading.proofs.Sections.ClockTable.{mark_taken, kept_none, kept_more, kept_refused, kept_all, clocks_refused}
+use Rattle.reading.proofs.Sections.ClockTable.{kept_none, kept_more, kept_refused, kept_all, clocks_refused}
 use Rattle.reading.proofs.clock_rows.Goals as goal
-use Rattle.reading.proofs.clock_rows.Goals.{In_ok-mark}
-
-taken : (c : In_ok-mark) → Taken c.in_ok-mark.mark.node.envelope
-taken c = mark_taken c.args.s.now c.args.words.now _ c.requires.0 (stored_holds _ _ _ _ _ _ _ c.loop-i.invariant.nodes) _ c.in_ok-mark.mark _ (sym c.in_ok-mark.ensures)
 
 pub loop-i-init : goal.loop-i-init
 loop-i-init c = kept_none _ _ _ _ _ _
-
-pub clock-requires : goal.clock-requires
-clock-requires c = (c.requires.0, stored_holds _ _ _ _ _ _ _ c.loop-i.invariant.nodes)
 
 pub returns-in_err-mark : goal.returns-in_err-mark
 returns-in_err-mark c = clocks_refused _ _ _ _ _ _
     (kept_refused _ _ _ _ _ _ _ _ c.loop-i.invariant c.loop-i-test.true _ _ (sym c.in_err-mark.ensures))
     (read_passed_on _ _ c.from_residual.ensures refl)
 
-pub store-requires : goal.store-requires
-store-requires c = let h = c.requires in (omega arith, taken (goal.at.store-requires c).In_ok-mark)
-
 pub loop-i-preserved : goal.loop-i-preserved
 loop-i-preserved c =
     let h = c.requires in
     kept_more _ _ _ _ _ _ _ _ c.loop-i.invariant c.loop-i-test.true c.in_ok-mark.mark _ _ _
-    (sym c.in_ok-mark.ensures) (taken (goal.at.loop-i-preserved c).In_ok-mark) (omega arith) (omega arith) c.store.ensures refl
+    (sym c.in_ok-mark.ensures) (omega arith) (omega arith) refl refl
 
 pub returns : goal.returns
 returns c = let done : c.loop-i.i ≡ c.args.n = omega arith in

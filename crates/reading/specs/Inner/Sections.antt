@@ -1,32 +1,31 @@
 -- What the code's readers of sections answer, and what they leave in the tables that are lent to them: each by the one reader of Reader.antt.
-use Rattle.std.specs.Prelude.{◌≡◌, List, [], ◌∷◌, map, ℕ, ◌+◌, ◌*◌, ℤ, length, take, get_or, Result, Ok, Err}
+use Rattle.std.specs.Prelude.{◌≡◌, List, map, ℕ, ◌+◌, length, take, Result, Ok, Err}
 use Rattle.reply.specs.Numbers.{unknown}
 use Rattle.field.specs.Read.{Read, Read.got, Read.refused, bind, mapped}
 use Rattle.field.specs.Field.{field_in, read_of}
 use Rattle.field.specs.declared.Cursor.{Cursor}
 use Rattle.reply.specs.declared.Refusal.{Refusal}
-use Rattle.reply.specs.Refusal.{cause_number, refusal}
+use Rattle.reply.specs.Refusal.{refusal}
 use Rattle.envelope.specs.declared.Node.{Node}
 use Rattle.expression.specs.Expression.{Word, Clock, depth_most, spell_word}
-use Rattle.expression.specs.Evaluate.{word_nodes}
+use Rattle.expression.specs.Evaluate.{word_node, word_nodes}
 use Rattle.expression.specs.Reader.{expr_at, node_in}
-use Rattle.expression.specs.Inner.Nodes.{per_node, flats, AllTaken}
 use Rattle.reading.specs.declared.Mark.{Mark}
 use Rattle.reading.specs.declared.Found.{Found}
 use Rattle.sheet.specs.Sheet.{Link, section, words_most}
 use Rattle.sheet.specs.Reader.{section_at, word_at, links_on, clocks_on}
 use Rattle.sheet.specs.SheetRead.{ClockNode, node_of_clock, SheetRead}
 
+-- how many rows there are, and what a table keeps of each
+abbrev pub Left : {A B : Type 0} → (A → B) → Read (List A) → Result (ℕ × Cursor) Refusal → List B → Type 0
+Left f (got xs c) r t = (read_of r ≡ got (length xs) c) × (take (length xs) t ≡ map f xs)
+Left f (refused number place) r t = read_of r ≡ refused number place
+
 -- ---- words
 
--- how many words, and their nodes in the table
-abbrev pub WordsLeft : Read (List Word) → Result (ℕ × Cursor) Refusal → List ℤ → Type 0
-WordsLeft (got ws c) r t =
-    (read_of r ≡ got (length ws) c) × (take (per_node * length ws) t ≡ flats (word_nodes ws)) × AllTaken (word_nodes ws)
-WordsLeft (refused number place) r t = read_of r ≡ refused number place
-
-abbrev pub WordRows : List ℕ → ℕ → Result (ℕ × Cursor) Refusal → List ℤ → Type 0
-WordRows s a r t = WordsLeft (section_at (λ xs a. word_at s a) words_most s a) r t
+-- their nodes
+abbrev pub WordRows : List ℕ → ℕ → Result (ℕ × Cursor) Refusal → List Node → Type 0
+WordRows s a r t = Left word_node (section_at (λ xs a. word_at s a) words_most s a) r t
 
 -- ---- clocks
 
@@ -41,39 +40,19 @@ marked_at s ws cs a =
 abbrev pub state_of_row : ClockNode → ℕ
 state_of_row r = r.clock.state
 
--- how many clocks, their nodes in one table and their states in another
-abbrev pub ClockRows : Read (List ClockNode) → Result (ℕ × Cursor) Refusal → List ℤ → List ℕ → Type 0
-ClockRows (got rows c) r t ss =
-    (read_of r ≡ got (length rows) c)
-    × (take (per_node * length rows) t ≡ flats (map node_of_clock rows))
-    × (take (length rows) ss ≡ map state_of_row rows)
-    × AllTaken (map node_of_clock rows)
-ClockRows (refused number place) r t ss = read_of r ≡ refused number place
+-- their nodes in one table and their states in another
+pub record ClockRows (x : Read (List ClockNode)) (r : Result (ℕ × Cursor) Refusal) (t : List Node) (ss : List ℕ) : Type 0 where
+  pub nodes : Left node_of_clock x r t
+  pub states : Left state_of_row x r ss
 
 -- ---- links
-abbrev pub ends_of : Result ((ℕ × ℕ) × Cursor) Refusal → Read Link
-ends_of (Ok ((i, j), c)) = got (record { producer = i; consumer = j }) c.at
-ends_of (Err r) = refused (cause_number r.cause) r.place
 
--- their ends, one after another in a table
-unfoldable pub flat_links : List Link → List ℕ
-flat_links [] = []
-flat_links (l ∷ ls) = l.producer ∷ l.consumer ∷ flat_links ls
+-- their ends
+abbrev pub ends_of : Link → Link
+ends_of l = l
 
--- the links whose ends stand in a table
-unfoldable pub links_of : List ℕ → List Link
-links_of [] = []
-links_of (i ∷ []) = []
-links_of (i ∷ j ∷ es) = record { producer = i; consumer = j } ∷ links_of es
-
--- the link at index i of a table of ends
-abbrev pub link_in : List ℕ → ℕ → Link
-link_in es i = record { producer = get_or es (2 * i) 0; consumer = get_or es (2 * i + 1) 0 }
-
--- how many links, and their ends in a table
-abbrev pub LinkRows : Read (List Link) → Result (ℕ × Cursor) Refusal → List ℕ → Type 0
-LinkRows (got ls c) r es = (read_of r ≡ got (length ls) c) × (take (2 * length ls) es ≡ flat_links ls)
-LinkRows (refused number place) r es = read_of r ≡ refused number place
+abbrev pub LinkRows : Read (List Link) → Result (ℕ × Cursor) Refusal → List Link → Type 0
+LinkRows x r es = Left ends_of x r es
 
 -- ---- a whole sheet
 
@@ -97,25 +76,22 @@ abbrev pub state_of_clock : Clock → ℕ
 state_of_clock c = c.state
 
 -- the links' ends in their table
-abbrev pub EndsLeft : Read SheetRead → List ℕ → Type 0
-EndsLeft (got o c) es = take (2 * length o.sheet.links) es ≡ flat_links o.sheet.links
+abbrev pub EndsLeft : Read SheetRead → List Link → Type 0
+EndsLeft (got o c) es = take (length o.sheet.links) es ≡ o.sheet.links
 EndsLeft (refused number place) es = Unit
 
 -- the clocks' nodes, their states and the links' ends, each in its table
-abbrev pub Tabled : Read SheetRead → List ℤ → List ℕ → List ℕ → Type 0
+abbrev pub Tabled : Read SheetRead → List Node → List ℕ → List Link → Type 0
 Tabled (got o c) t ss es =
-    (take (per_node * length o.table) t ≡ flats o.table)
-    × (take (length o.table) ss ≡ map state_of_clock o.sheet.clocks)
-    × AllTaken o.table
-    × EndsLeft (got o c) es
+    (take (length o.table) t ≡ o.table) × (take (length o.table) ss ≡ map state_of_clock o.sheet.clocks) × EndsLeft (got o c) es
 Tabled (refused number place) t ss es = Unit
 
 -- what is answered and left from the links on, whatever the words and the m clocks before them are
-abbrev pub ToEnd : List ℕ → ℕ → ℕ → ℕ → Result Found Refusal → List ℕ → Type 0
+abbrev pub ToEnd : List ℕ → ℕ → ℕ → ℕ → Result Found Refusal → List Link → Type 0
 ToEnd s first a m r es =
     (ws : List Word) (rows : List ClockNode) → length rows ≡ m → (r ≡ reading_from first (links_on s ws rows a)) × EndsLeft (links_on s ws rows a) es
 
 -- and from the clocks on, whatever words have those nodes
-abbrev pub FromClocks : List ℕ → ℕ → List Node → Result Found Refusal → List ℤ → List ℕ → List ℕ → Type 0
+abbrev pub FromClocks : List ℕ → ℕ → List Node → Result Found Refusal → List Node → List ℕ → List Link → Type 0
 FromClocks s a xs r t ss es =
     (ws : List Word) → xs ≡ word_nodes ws → (r ≡ reading_from (a + 2) (clocks_on s ws a)) × Tabled (clocks_on s ws a) t ss es
