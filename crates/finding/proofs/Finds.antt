@@ -1,7 +1,6 @@
 -- What reading a sheet and finding a clock in it tell: where the clock begins and ends. Assumes nothing.
-use mathlib.Core.Path.{◌≡◌, refl, ap}
-use mathlib.Core.List.{List, [], ◌∷◌}
-use mathlib.Core.Option.{none}
+use mathlib.Core.Path.{◌≡◌, sym, ap, ◌∙◌}
+use mathlib.Core.List.{List}
 use Prim.Native.Nat.{ℕ, zero, suc, ◌+◌, ◌≤◌, ◌<◌}
 use native.Mathlib.Numerals.{add-one}
 use native.Mathlib.Omega.{arith}
@@ -15,24 +14,19 @@ use Rattle.field.specs.Read.{Read, Read.got, Read.refused, bind, mapped}
 use Rattle.field.specs.Spelling.{AllBytes}
 use Rattle.expression.specs.Expression.{spell_word}
 use Rattle.expression.specs.Inner.Skipping.{HasExpr}
-use Rattle.expression.proofs.Lookup.{lookup_there}
+use Rattle.expression.proofs.Lookup.{lookup_there, lookup_past}
 use Rattle.reading.specs.declared.Found.{Found}
 use Rattle.sheet.specs.Sheet.{rows, section}
 use Rattle.sheet.specs.Reader.{read_sheet}
 use Rattle.sheet.specs.SheetRead.{SheetRead}
 use Rattle.reading.specs.Inner.Sections.{found_of, reading_of}
+use Rattle.reading.proofs.Answered.{reading_got, reading_refused}
 use Rattle.sheet.proofs.Refusing.Numbers.{one_to_ten}
 use Rattle.sheet.proofs.Spelling.Sheets.{sheet_reads}
 use Rattle.sheet.specs.Locating.{clock_place, place_of, listed_clock, located_in}
 use Rattle.finding.specs.Inner.Skipping.{HasClocks}
 use Rattle.sheet.proofs.Spelling.Places.{next_place}
 use Rattle.finding.proofs.Skips.{clock_expr}
-
--- past the last element there is none
-pub past_the_last : {A : Type 0} (xs : List A) (i : ℕ) → length xs ≤ i → get_elem? xs i ≡ none
-past_the_last [] i h = refl
-past_the_last (x ∷ xs) zero h = absurd (omega arith)
-past_the_last (x ∷ xs) (suc i) h = past_the_last xs i (omega arith)
 
 -- the sheet that was read has a clock i, and its clocks begin at `first`
 pub record Chosen (s : List ℕ) (first i : ℕ) : Type 0 where
@@ -44,40 +38,33 @@ pub record Chosen (s : List ℕ) (first i : ℕ) : Type 0 where
 -- ---- by what the code's reader answered: a refusal
 pub find_refused : (s : List ℕ) (e : Refusal) → reading_of (read_sheet s) ≡ Err e → (i : ℕ) → refused (cause_number e.cause) e.place ≡ mapped place_of (located_in s i)
 unfolding located_in
-find_refused s e told i = go (read_sheet s) refl told
-  where
-    go : (x : Read SheetRead) → read_sheet s ≡ x → reading_of x ≡ Err e
-        → refused (cause_number e.cause) e.place ≡ mapped place_of (bind x λ o c. listed_clock o.sheet i (get_elem? o.sheet.clocks i))
-    go (got o c) h q = absurd (cc)
-    go (refused number place) h q =
-        let is : refusal number place ≡ e = cc in
-        let few = one_to_ten s number place h in
-        rw (← is, number_back number few.0 (omega (arith, few.1)))
+find_refused s e told i =
+    let r = reading_refused (read_sheet s) e told in
+    let few = one_to_ten s r.0 r.1 r.2 in
+    let n : cause_number e.cause ≡ r.0 = ap (λ (x : Refusal). cause_number x.cause) (sym r.3) ∙ number_back r.0 few.0 (omega (arith, few.1)) in
+    let p : e.place ≡ r.1 = ap (λ (x : Refusal). x.place) (sym r.3) in
+    rw r.2 (λ i. refused (n i) (p i))
 
 -- or what was found
 module _ (s : List ℕ) (bytes : AllBytes s) (f : Found) (told : reading_of (read_sheet s) ≡ Ok f) where
-  whole : (o : SheetRead) × (c : ℕ) × (read_sheet s ≡ got o c) × (f ≡ found_of o)
-  whole = go (read_sheet s) refl told
-    where
-      go : (x : Read SheetRead) → read_sheet s ≡ x → reading_of x ≡ Ok f → (o : SheetRead) × (c : ℕ) × (read_sheet s ≡ got o c) × (f ≡ found_of o)
-      go (got o c) h q = (o, c, h, cc)
-      go (refused number place) h q = absurd (cc)
+  found : (o : SheetRead) × (c : ℕ) × (read_sheet s ≡ got o c) × (found_of o ≡ f)
+  found = reading_got (read_sheet s) f told
 
   pub find_absent : (i : ℕ) → f.clocks ≤ i → refused no_clock 0 ≡ mapped place_of (located_in s i)
   unfolding located_in
   find_absent i few =
-      let w = whole in
+      let w = found in
       let o = sheet_reads s bytes w.0 w.1 w.2 in
-      let n : f.clocks ≡ length w.0.table = ap (λ (x : Found). x.clocks) w.3 in
-      rw (w.2, past_the_last w.0.sheet.clocks i (omega (arith, o.worked.many)))
+      let n : f.clocks ≡ length w.0.table = ap (λ (x : Found). x.clocks) (sym w.3) in
+      rw (w.2, lookup_past w.0.sheet.clocks i (omega (arith, o.worked.many)))
 
   pub find_chosen : (i : ℕ) → i < f.clocks → Chosen s f.clockrows i
   unfolding clock_place rows
   find_chosen i lt =
-      let w = whole in
+      let w = found in
       let o = sheet_reads s bytes w.0 w.1 w.2 in
-      let n : f.clocks ≡ length w.0.table = ap (λ (x : Found). x.clocks) w.3 in
-      let b : f.clockrows ≡ length (section spell_word w.0.sheet.words) + 2 = ap (λ (x : Found). x.clockrows) w.3 in
+      let n : f.clocks ≡ length w.0.table = ap (λ (x : Found). x.clocks) (sym w.3) in
+      let b : f.clockrows ≡ length (section spell_word w.0.sheet.words) + 2 = ap (λ (x : Found). x.clockrows) (sym w.3) in
       record {
         opened = w.0;
         past = w.1;

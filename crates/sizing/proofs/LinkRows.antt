@@ -22,11 +22,10 @@ use Rattle.link.specs.declared.Verdict.TheVariants.{Accepted, Rates, Early}
 use Rattle.link.specs.declared.Row.{Row}
 use Rattle.link.specs.Link.{size_of, verdict_of, verdict_number, size_in, state_of, open_size_of, Passes}
 use Rattle.link.proofs.Links.{size_least, accepted_is}
-use Rattle.expression.specs.Inner.Nodes.{HasNode, nodes_in, node_at, AllTaken, HoldsNodes}
-use Rattle.expression.proofs.Tables.{node_at_lem}
+use Rattle.expression.specs.Inner.Nodes.{AllTaken}
 use Rattle.sheet.specs.Sheet.{Link}
 use Rattle.sizing.specs.Rooms.{verdict_between, verdict_in, size_of_row}
-use Rattle.sizing.specs.Inner.Rows.{row_at, Ready}
+use Rattle.sizing.specs.Inner.Rows.{row_at}
 
 -- ---- sizes are small
 size_small : (e f : Envelope) → Taken e → Taken f → Passes e f → nat_abs (size_of e f) ≤ 3000000000
@@ -46,7 +45,7 @@ size_small e f s t p =
     small (pos n) p q = omega (arith, orders)
     small (negsuc n) p q = absurd (omega (arith, orders))
 
-verdict_small : (e f : Envelope) → Taken e → Taken f → size_in (verdict_of e f) ≤ 3000000000
+pub verdict_small : (e f : Envelope) → Taken e → Taken f → size_in (verdict_of e f) ≤ 3000000000
 verdict_small e f s t = go (verdict_of e f) refl
   where
     go : (v : Verdict) → verdict_of e f ≡ v → size_in v ≤ 3000000000
@@ -78,26 +77,13 @@ number_small Rates = omega arith
 number_small Early = omega arith
 
 -- ---- a row, from the entries of the table
-pub entry_taken : (t : List ℤ) (i : ℕ) (x : Node) → HoldsNodes t → HasNode t i → x ≡ node_at t i → Taken x.envelope
-entry_taken t i x h l p = subst (λ (y : Node). Taken y.envelope) (sym p) (h.taken i (node_at t i) (node_at_lem t i l))
-
--- both ends of link i are clocks of the table
-pub ends_there : {t : List ℤ} {ss es : List ℕ} {n : ℕ} → Ready t ss es n → (i : ℕ) → i < n → HasNode t (get_or es (2 * i) 0) × HasNode t (get_or es (2 * i + 1) 0)
-ends_there h i lt = (
-  omega (arith, h.many, h.there (2 * i) (omega (arith, h.pairs))),
-  omega (arith, h.many, h.there (2 * i + 1) (omega (arith, h.pairs))),
-)
-
 pub row_is :
-    (t : List ℤ) (ss : List ℕ) (l : Link) (x y : Node) (v : Verdict) (state : ℕ) →
-    HasNode t l.producer →
-    HasNode t l.consumer →
-    x ≡ node_at t l.producer →
-    y ≡ node_at t l.consumer →
+    (t : List Node) (ss : List ℕ) (l : Link) (x y : Node) (v : Verdict) (state : ℕ) →
+    get_elem? t l.producer ≡ some x →
+    get_elem? t l.consumer ≡ some y →
     v ≡ verdict_of x.envelope y.envelope →
     state ≡ state_of (get_or ss l.producer 0) (get_or ss l.consumer 0) →
-    ◌≡◌ {A = Row} (record { producer = l.producer; consumer = l.consumer; state = state; verdict = v }) (row_at (nodes_in t) ss l)
-row_is t ss l x y v state hi hj p q r e =
-    let w : v ≡ verdict_between (get_elem? (nodes_in t) l.producer) (get_elem? (nodes_in t) l.consumer) =
-    r ∙ ap₂ (λ (x y : Node). verdict_of x.envelope y.envelope) p q ∙ sym (ap₂ verdict_between (node_at_lem t l.producer hi) (node_at_lem t l.consumer hj)) in
+    ◌≡◌ {A = Row} (record { producer = l.producer; consumer = l.consumer; state = state; verdict = v }) (row_at t ss l)
+row_is t ss l x y v state p q r e =
+    let w : v ≡ verdict_between (get_elem? t l.producer) (get_elem? t l.consumer) = r ∙ sym (ap₂ verdict_between p q) in
     λ k. record { producer = l.producer; consumer = l.consumer; state = e k; verdict = w k }

@@ -16,8 +16,6 @@ use Rattle.link.specs.declared.Row.{Row}
 use Rattle.link.specs.Link.{state_of}
 use Rattle.expression.specs.Expression.{Clock}
 use Rattle.envelope.specs.declared.Node.{Node}
-use Rattle.expression.specs.Inner.Nodes.{per_node, flats, nodes_in}
-use Rattle.expression.proofs.Tables.{flats_length, nodes_many}
 use Rattle.reply.specs.declared.Cause.{Cause}
 use Rattle.reply.specs.declared.Cause.TheVariants.{ShortResult}
 use Rattle.reply.proofs.Causes.{cause_with_number}
@@ -26,21 +24,16 @@ use Rattle.reply.specs.Refusal.{refusal, refused_for}
 use Rattle.reading.specs.declared.Found.{Found}
 use Rattle.sizing.specs.declared.Rooms.{Rooms}
 use Rattle.sizing.specs.declared.Totals.{Totals}
-use Rattle.sheet.specs.Sheet.{Link, clocks_most, links_most}
+use Rattle.sheet.specs.Sheet.{Link, LinkRow, clocks_most, links_most}
 use Rattle.sheet.specs.Reader.{read_sheet}
 use Rattle.sheet.specs.SheetRead.{SheetRead}
 use Rattle.sizing.specs.Rooms.{state_in, row_of, rows_of, open_room, whole_room, verdict_in}
 use Rattle.sizing.specs.WorkOut.{room_for, worked_of, reply_of, clock_numbers, link_numbers, flatten, clocks_out, links_out, WorksOut}
-use Rattle.reading.specs.Inner.Sections.{flat_links, links_of, found_of, reading_of, state_of_clock, Tabled}
+use Rattle.reading.specs.Inner.Sections.{found_of, reading_of, state_of_clock, Tabled}
 use Rattle.sizing.specs.Inner.Rows.{row_at, rows_in, rooms_over, Ready, FoundIn, InTables, Given}
+use Rattle.sheet.proofs.Spelling.Rows.{each_at}
 use Rattle.sheet.proofs.Spelling.Sheets.{Opens, sheet_reads}
-use Rattle.reading.proofs.Sections.LinkTable.{flat_length, links_flat, ends_small, links_many}
-use Rattle.reading.proofs.Sections.NodeTables.{lent_holds, lent_nodes}
-
--- ---- the reading, by what the code's reader answered
-reading_got : (X : Read SheetRead) (f : Found) → reading_of X ≡ Ok f → (o : SheetRead) × (c : ℕ) × (X ≡ got o c) × (found_of o ≡ f)
-reading_got (got o c) f e = (o, c, refl, cc)
-reading_got (refused number place) f e = absurd (cc)
+use Rattle.reading.proofs.Answered.{reading_got, reading_refused}
 
 -- how many clocks and links were found
 module _ (o : SheetRead) (f : Found) (f_is : found_of o ≡ f) where
@@ -53,13 +46,9 @@ module _ (o : SheetRead) (f : Found) (f_is : found_of o ≡ f) where
 -- ---- the answer to a sheet that is refused
 pub out_refused : (s : List ℕ) (clocks links : List ℤ) (e : Refusal) → reading_of (read_sheet s) ≡ Err e → WorksOut s clocks links (Err e) clocks links
 unfolding worked_of
-out_refused s clocks links e h = go (read_sheet s) refl h
-  where
-    go : (X : Read SheetRead) → read_sheet s ≡ X → reading_of X ≡ Err e → WorksOut s clocks links (Err e) clocks links
-    go (got o c) x p = absurd (cc)
-    go (refused number place) x p =
-        let z : refusal number place ≡ e = cc in
-        record { reply_is = rw x (ap Err (sym z)); clocks_are = rw x; links_are = rw x }
+out_refused s clocks links e h =
+    let r = reading_refused (read_sheet s) e h in
+    record { reply_is = rw r.2 (ap Err (sym r.3)); clocks_are = rw r.2; links_are = rw r.2 }
 
 -- ---- a sheet that was read
 module _ (s : List ℕ) (bytes : AllBytes s) (o : SheetRead) (c : ℕ) (read : read_sheet s ≡ got o c) where
@@ -98,65 +87,46 @@ module _ (s : List ℕ) (bytes : AllBytes s) (o : SheetRead) (c : ℕ) (read : r
   links_few = omega (arith, few_links s bytes o c read, links_are o f f_is)
 
   -- with its tables
-  module _ (t : List ℤ) (ss es : List ℕ) (tabled : Tabled (read_sheet s) t ss es) where
+  module _ (t : List Node) (ss : List ℕ) (es : List Link) (tabled : Tabled (read_sheet s) t ss es) where
     tables : Tabled (got o c) t ss es
     tables = subst (λ (r : Read SheetRead). Tabled r t ss es) read tabled
 
-    nodes : take (per_node * f.clocks) t ≡ flats o.table
-    nodes = rw (← clocks_are o f f_is) tables.0
-
-    states : take f.clocks ss ≡ map state_of_clock o.sheet.clocks
-    states = rw (← clocks_are o f f_is) tables.1
-
-    table_is : nodes_in (take (per_node * f.clocks) t) ≡ o.table
-    table_is = lent_nodes t f.clocks o.table nodes tables.2
-
-    lent_many : length (take (per_node * f.clocks) t) ≡ per_node * f.clocks
-    lent_many = ap length nodes ∙ flats_length o.table ∙ ap (λ (x : ℕ). per_node * x) (clocks_are o f f_is)
-
-    states_many : length (take f.clocks ss) ≡ f.clocks
-    states_many = ap length states ∙ length-map o.sheet.clocks state_of_clock ∙ sym (opens s bytes o c read).worked.many ∙ clocks_are o f f_is
-
-    ends : take (2 * f.links) es ≡ flat_links o.sheet.links
-    ends = rw (← links_are o f f_is) tables.3
-
-    links_is : links_of (take (2 * f.links) es) ≡ o.sheet.links
-    links_is = ap links_of ends ∙ links_flat o.sheet.links
-
-    ready : Ready (take (per_node * f.clocks) t) (take f.clocks ss) (take (2 * f.links) es) f.links
-    ready =
-        let q = opens s bytes o c read in
+    shows : InTables o (take f.clocks t) (take f.clocks ss) (take f.links es)
+    shows =
         record {
-          table = lent_holds t f.clocks o.table nodes tables.2;
-          many = lent_many ∙ ap (λ (x : ℕ). per_node * x) (sym states_many);
-          few_clocks = omega (arith, states_many, clocks_few);
-          few_links = links_few;
-          pairs = ap length ends ∙ flat_length o.sheet.links ∙ ap (λ (x : ℕ). 2 * x) (links_are o f f_is);
-          there =
-              rw (ends, states_many, ← clocks_are o f f_is, q.worked.many)
-              (ends_small (length o.sheet.clocks) [] o.sheet.links q.legal.links_legal);
+          nodes = rw (← clocks_are o f f_is) tables.0;
+          states = rw (← clocks_are o f f_is) tables.1;
+          links = rw (← links_are o f f_is) tables.2;
         }
 
-    shows : InTables o (take (per_node * f.clocks) t) (take f.clocks ss) (take (2 * f.links) es)
-    shows = record { nodes = table_is; states = states; links = links_is }
+    ready : Ready (take f.clocks t) (take f.clocks ss) (take f.links es)
+    ready =
+        let q = opens s bytes o c read in
+        let states : length (take f.clocks ss) ≡ length o.sheet.clocks = ap length shows.states ∙ length-map o.sheet.clocks state_of_clock in
+        let nodes : length (take f.clocks t) ≡ length o.table = ap length shows.nodes in
+        let links : length (take f.links es) ≡ length o.sheet.links = ap length shows.links in
+        record {
+          many = omega (arith, nodes, states, q.worked.many);
+          few_clocks = omega (arith, states, q.legal.clocks_within);
+          few_links = omega (arith, links, q.legal.links_within);
+          there = λ j l e.
+              let row = each_at (λ ks l. LinkRow (length o.sheet.clocks) l) [] o.sheet.links j l q.legal.links_legal (ap (λ (ls : List Link). get_elem? ls j) (sym shows.links) ∙ e) in
+              rw states (row.producer_there, row.consumer_there);
+        }
 
 -- ---- what is given: by the room that was lent
 short_is : ◌≡◌ {A = Result Totals Refusal} (refused_for ShortResult 0) (Err (refusal short_result 0))
 short_is = ap (λ (k : Cause). Err (record { cause = k; place = 0 })) (sym (cause_with_number ShortResult))
 
-module _ (t : List ℤ) (ss es : List ℕ) (n : ℕ) (ready : Ready t ss es n) (x l : List ℤ) where
+module _ (t : List Node) (ss : List ℕ) (es : List Link) (ready : Ready t ss es) (x l : List ℤ) where
   given_by : (r : Result Totals Refusal) (x' l' : List ℤ)
-      → ((o : SheetRead) → InTables o t ss es → length ss ≡ length o.table → n ≡ length o.sheet.links
+      → ((o : SheetRead) → InTables o t ss es → length t ≡ length o.table → length es ≡ length o.sheet.links
       → (c : ℕ) → (X : Read SheetRead) × (room_for (length x) (length l) o c ≡ X) × (r ≡ reply_of X) × (x' ≡ clocks_out X x) × (l' ≡ links_out X l))
       → Given t ss es x l r x' l'
-  given_by r x' l' go o c h =
-      let many : length ss ≡ length o.table = omega (arith, nodes_many t, ready.many, ap length h.nodes) in
-      let few : n ≡ length o.sheet.links = sym (links_many n es ready.pairs) ∙ ap length h.links in
-      let w = go o h many few c in
-      rw w.1 (w.2, w.3, w.4)
+  given_by r x' l' go o c h = let w = go o h (ap length h.nodes) (ap length h.links) c in rw w.1 (w.2, w.3, w.4)
 
   -- too little for the clocks or for the links
-  pub short : (r : Result Totals Refusal) → (length x < 4 * length ss) ⊎ ((4 * length ss ≤ length x) × (length l < 3 * n)) → r ≡ refused_for ShortResult 0 → Given t ss es x l r x l
+  pub short : (r : Result Totals Refusal) → (length x < 4 * length t) ⊎ ((4 * length t ≤ length x) × (length l < 3 * length es)) → r ≡ refused_for ShortResult 0 → Given t ss es x l r x l
   short r (inl h) e =
       given_by r x l λ o shown many few c.
       (refused short_result 0, rw (lt-leb (4 * length o.table) (length x) (omega (arith, many))), e ∙ short_is, refl, refl)
@@ -164,15 +134,15 @@ module _ (t : List ℤ) (ss es : List ℕ) (n : ℕ) (ready : Ready t ss es n) (
       given_by r x l λ o shown many few c.
       (refused short_result 0, rw (le-leb (4 * length o.table) (length x) (omega (arith, many, h)), lt-leb (3 * length o.sheet.links) (length l) (omega (arith, few, h))), e ∙ short_is, refl, refl)
 
-  pub given_all : 4 * length ss ≤ length x → 3 * n ≤ length l → (q : Rooms) (x' l' : List ℤ)
-      → x' ≡ flatten clock_numbers (nodes_in t) ++ drop (4 * length ss) x
-      → q ≡ rooms_over (rows_in (nodes_in t) ss (links_of es))
-      → l' ≡ flatten link_numbers (rows_in (nodes_in t) ss (links_of es)) ++ drop (3 * n) l
-      → Given t ss es x l (Ok (record { clocks = length ss; links = n; opened = q.opened; whole = q.whole })) x' l'
+  pub given_all : 4 * length t ≤ length x → 3 * length es ≤ length l → (q : Rooms) (x' l' : List ℤ)
+      → x' ≡ flatten clock_numbers t ++ drop (4 * length t) x
+      → q ≡ rooms_over (rows_in t ss es)
+      → l' ≡ flatten link_numbers (rows_in t ss es) ++ drop (3 * length es) l
+      → Given t ss es x l (Ok (record { clocks = length t; links = length es; opened = q.opened; whole = q.whole })) x' l'
   unfolding open_room whole_room
   given_all fits h q x' l' p e d =
       given_by _ x' l' λ o shown many few c.
-      let rows : rows_in (nodes_in t) ss (links_of es) ≡ rows_of o = rw (shown.nodes, shown.states, shown.links) (rows_are o o.sheet.links) in
+      let rows : rows_in t ss es ≡ rows_of o = rw (shown.nodes, shown.states, shown.links) (rows_are o o.sheet.links) in
       let sums : q ≡ rooms_over (rows_of o) = e ∙ ap rooms_over rows in (
         got o c,
         rw (le-leb (4 * length o.table) (length x) (omega (arith, many)), le-leb (3 * length o.sheet.links) (length l) (omega (arith, few))),
@@ -182,24 +152,24 @@ module _ (t : List ℤ) (ss es : List ℕ) (n : ℕ) (ready : Ready t ss es n) (
       )
 
 -- ---- by what the code's reader found and left
-module _ (s : List ℕ) (f : Found) (t : List ℤ) (ss es : List ℕ) (h : FoundIn s f t ss es) where
+module _ (s : List ℕ) (f : Found) (t : List Node) (ss : List ℕ) (es : List Link) (h : FoundIn s f t ss es) where
   pub found_sheet : (o : SheetRead) × (c : ℕ) × (read_sheet s ≡ got o c) × (found_of o ≡ f)
   found_sheet = reading_got (read_sheet s) f h.told
 
   pub found_few : (f.clocks ≤ clocks_most) × (f.links ≤ links_most)
   found_few = let w = found_sheet in (clocks_few s h.bytes w.0 w.1 w.2 f w.3, links_few s h.bytes w.0 w.1 w.2 f w.3)
 
-  pub found_ready : Ready (take (per_node * f.clocks) t) (take f.clocks ss) (take (2 * f.links) es) f.links
+  pub found_ready : Ready (take f.clocks t) (take f.clocks ss) (take f.links es)
   found_ready = let w = found_sheet in ready s h.bytes w.0 w.1 w.2 f w.3 t ss es h.tabled
 
-  pub found_in_tables : (o : SheetRead) (c : ℕ) → read_sheet s ≡ got o c → InTables o (take (per_node * f.clocks) t) (take f.clocks ss) (take (2 * f.links) es)
+  pub found_in_tables : (o : SheetRead) (c : ℕ) → read_sheet s ≡ got o c → InTables o (take f.clocks t) (take f.clocks ss) (take f.links es)
   found_in_tables o c e =
       let told : reading_of (got o c) ≡ Ok f = ap reading_of (sym e) ∙ h.told in
       let is : found_of o ≡ f = cc in
       shows s h.bytes o c e f is t ss es h.tabled
 
   -- what is given of tables that show the sheet is what working it out gives
-  pub found_given : (t' : List ℤ) (ss' es' : List ℕ) → ((o : SheetRead) (c : ℕ) → read_sheet s ≡ got o c → InTables o t' ss' es')
+  pub found_given : (t' : List Node) (ss' : List ℕ) (es' : List Link) → ((o : SheetRead) (c : ℕ) → read_sheet s ≡ got o c → InTables o t' ss' es')
       → (x x' l l' : List ℤ) (r : Result Totals Refusal) → Given t' ss' es' x l r x' l' → WorksOut s x l r x' l'
   unfolding worked_of
   found_given t' ss' es' shown x x' l l' r g =

@@ -2,24 +2,27 @@
 -- Assumes nothing.
 use mathlib.Core.Path.{◌≡◌, refl, sym, ap, ap₂, ◌∙◌, subst}
 use mathlib.Core.List.{List, [], ◌∷◌, ◌++◌, map, append-nil, append_assoc}
-use Prim.Native.Nat.{ℕ, ◌+◌, ◌*◌, ◌≤◌}
+use Prim.Native.Nat.{ℕ, ◌+◌, ◌*◌, ◌≤◌, ◌<◌}
 use native.Mathlib.Nat.{mul-zero, mul-suc}
 use native.Mathlib.Numerals.{add-one}
 use native.Mathlib.Omega.{arith}
 use lib.IntN.{ℤ}
-use lib.ListN.{length, take, drop, length-append, take-append-drop}
-use lib.Seq.{sets, sets-eq, take_at, drop_at, drop-drop, length-take-le, take_all}
+use lib.ListN.{length, get_or, take, drop, length-append, take-append-drop}
+use lib.Seq.{sets, sets-eq, take_at, drop_at, drop-drop, length-take-le, take_all, take-suc}
 use Rattle.envelope.specs.declared.Node.{Node}
 use Rattle.link.specs.declared.Row.{Row}
 use Rattle.link.specs.Link.{open_size_of}
-use Rattle.expression.specs.Inner.Nodes.{AllTaken}
 use Rattle.sizing.specs.declared.Rooms.{Rooms}
 use Rattle.sheet.specs.Sheet.{Link}
 use Rattle.sizing.specs.Rooms.{total, size_of_row}
 use Rattle.sizing.specs.WorkOut.{flatten}
 use Rattle.sizing.specs.Inner.Rows.{row_at, rows_in, rooms_over, rooms_with}
-use Rattle.reading.proofs.Sections.NodeTables.{map_more}
-use Rattle.sizing.proofs.LinkRows.{row_small, open_most}
+use Rattle.reading.proofs.Sections.RowTables.{map_more}
+use Rattle.sizing.proofs.LinkRows.{open_most}
+
+-- ---- the first i of a list, with the next one
+pub take_next : {A : Type 0} (xs : List A) (i : ℕ) (x : A) → i < length xs → x ≡ get_or xs i x → take (i + 1) xs ≡ take i xs ++ (x ∷ [])
+take_next {A} xs i x h e = rw (add-one i) (take-suc xs i x h ∙ ap (λ (y : A). take i xs ++ (y ∷ [])) (sym e))
 
 -- ---- sums, with one more
 total_more : (xs : List ℕ) (x : ℕ) → total (xs ++ (x ∷ [])) ≡ total xs + x
@@ -90,13 +93,9 @@ module _ (xs : List Node) (ss : List ℕ) (ls : List Link) where
   pub rows_more : (i : ℕ) (k : Link) (r : Row) → take (i + 1) ls ≡ take i ls ++ (k ∷ []) → r ≡ row_at xs ss k → rows_to (i + 1) ≡ rows_to i ++ (r ∷ [])
   rows_more i k r p e = ap (rows_in xs ss) p ∙ map_more (row_at xs ss) (take i ls) k ∙ ap (λ (q : Row). rows_to i ++ (q ∷ [])) (sym e)
 
-  pub row_few : AllTaken xs → (k : Link) (r : Row) → r ≡ row_at xs ss k → size_of_row r ≤ 3000000000
-  row_few t k r e = subst (λ (q : Row). size_of_row q ≤ 3000000000) (sym e) (row_small xs t k)
-
-  pub summed_more : (i : ℕ) (q q' : Rooms) → Summed i q → AllTaken xs → (k : Link) (r : Row) → take (i + 1) ls ≡ take i ls ++ (k ∷ []) → r ≡ row_at xs ss k → q' ≡ rooms_with q r
+  pub summed_more : (i : ℕ) (q q' : Rooms) → Summed i q → (k : Link) (r : Row) → size_of_row r ≤ 3000000000 → take (i + 1) ls ≡ take i ls ++ (k ∷ []) → r ≡ row_at xs ss k → q' ≡ rooms_with q r
       → Summed (i + 1) q'
-  summed_more i q q' h t k r p e w =
-      let few = row_few t k r e in
+  summed_more i q q' h k r few p e w =
       let opens : q.opened + open_size_of r ≡ total (map open_size_of (rows_to (i + 1))) =
       ap (λ (y : Rooms). y.opened + open_size_of r) h.sums ∙ sym (sum_more open_size_of (rows_to i) r) ∙ ap (λ (rs : List Row). total (map open_size_of rs)) (sym (rows_more i k r p e)) in
       let wholes : q.whole + size_of_row r ≡ total (map size_of_row (rows_to (i + 1))) =
@@ -108,5 +107,5 @@ module _ (xs : List Node) (ss : List ℕ) (ls : List Link) where
         whole_few = omega (arith, h.whole_few, few);
       })
 
-  pub rows_all : (i : ℕ) → length ls ≡ i → rows_to i ≡ rows_in xs ss ls
-  rows_all i e = ap (rows_in xs ss) (take_all i ls (omega (arith, e)))
+  pub rows_all : (i : ℕ) → length ls ≤ i → rows_to i ≡ rows_in xs ss ls
+  rows_all i e = ap (rows_in xs ss) (take_all i ls e)

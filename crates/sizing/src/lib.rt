@@ -5,18 +5,16 @@ ghost use Rattle.std.specs.Prelude.{◌≡◌, List, [], ◌++◌, ℕ, ◌+◌,
 ghost use Rattle.std.proofs.lemmas.List.Edits.{sets};
 ghost use Rattle.link.specs.Link.{size_in};
 ghost use Rattle.field.specs.Read.{Read.got};
-ghost use Rattle.expression.specs.Inner.Nodes.{nodes_in};
 ghost use Rattle.envelope.specs.Envelope.{Taken};
 ghost use Rattle.sheet.specs.Reader.{read_sheet};
 ghost use Rattle.sheet.specs.SheetRead.{SheetRead};
 ghost use Rattle.sizing.specs.WorkOut.{clock_numbers, link_numbers, flatten, WorksOut};
-ghost use Rattle.reading.specs.Inner.Sections.{links_of, link_in};
 ghost use Rattle.sizing.specs.Inner.Rows.{row_at, Ready, FoundIn, InTables, rows_in, rooms_over, rooms_with, Given};
 
 use envelope::Node;
-use expression::{PER_NODE, entry};
+use expression::Entry;
 use link::{Row, judge};
-use reading::{Found, Tables, read};
+use reading::{Ends, Found, Tables, read};
 use reply::{Cause, Refusal};
 
 // Numbers per clock, and per link, in the slices that callers lend.
@@ -27,11 +25,10 @@ const PER_LINK: usize = 3;
 // A sheet that was read: its clocks' nodes and states, and its links' ends, in tables that are lent.
 #[derive(Clone, Copy)]
 pub struct Rows<'a> {
-    pub nodes: &'a [i32],
+    pub nodes: &'a [Entry],
     pub states: &'a [u8],
-    pub ends: &'a [u8],
-    pub links: usize,
-    pub ghost ready: { Ready nodes.now states.now ends.now links },
+    pub ends: &'a [Ends],
+    pub ghost ready: { Ready nodes.now states.now ends.now },
 }
 
 impl<'a> Rows<'a> {
@@ -42,22 +39,22 @@ impl<'a> Rows<'a> {
             → (o : SheetRead) (c : ℕ) → read_sheet s ≡ got o c → InTables o result.nodes.now result.states.now result.ends.now }
     {
         Rows {
-            nodes: &tables.nodes[..PER_NODE * found.clocks],
+            nodes: &tables.nodes[..found.clocks],
             states: &tables.states[..found.clocks],
-            ends: &tables.ends[..2 * found.links],
-            links: found.links,
+            ends: &tables.ends[..found.links],
         }
     }
 
-    // The row of link i.
-    pub fn row(&self, i: usize) -> Row
-        requires { i < self.now.links }
-        ensures { result ≡ row_at (nodes_in self.now.nodes.now) self.now.states.now (link_in self.now.ends.now i) }
+    // The row of a link with these ends.
+    pub fn row(&self, ends: Ends) -> Row
+        requires { (ends.producer < length self.now.states.now) × (ends.consumer < length self.now.states.now) }
+        ensures row { result ≡ row_at self.now.nodes.now self.now.states.now ends }
+        ensures small { size_in result.verdict ≤ 3000000000 }
     {
-        let p = self.ends[2 * i] as usize;
-        let q = self.ends[2 * i + 1] as usize;
-        let producer = entry(self.nodes, p);
-        let consumer = entry(self.nodes, q);
+        let p = ends.producer();
+        let q = ends.consumer();
+        let producer = self.nodes[p].node();
+        let consumer = self.nodes[q].node();
         let verdict = judge(producer.envelope, consumer.envelope);
         Row {
             producer: p,
@@ -69,23 +66,23 @@ impl<'a> Rows<'a> {
 
     // The numbers of the clocks are left in `list`.
     fn fill_clocks(&self, list: &mut [i64])
-        requires { 4 * length self.now.states.now ≤ length list.old }
-        ensures { list.new ≡ flatten clock_numbers (nodes_in self.now.nodes.now) ++ drop (4 * length self.now.states.now) list.old }
+        requires { 4 * length self.now.nodes.now ≤ length list.old }
+        ensures { list.new ≡ flatten clock_numbers self.now.nodes.now ++ drop (4 * length self.now.nodes.now) list.old }
     {
-        for i in 0..self.states.len() {
-            store_clock(entry(self.nodes, i), list, i);
+        for (i, x) in self.nodes.iter().enumerate() {
+            store_clock(x.node(), list, i);
         }
     }
 
     // The rows of the links are left in `list`.
     fn fill_links(&self, list: &mut [i64]) -> Rooms
-        requires { 3 * self.now.links ≤ length list.old }
-        ensures rooms { result ≡ rooms_over (rows_in (nodes_in self.now.nodes.now) self.now.states.now (links_of self.now.ends.now)) }
-        ensures rows { list.new ≡ flatten link_numbers (rows_in (nodes_in self.now.nodes.now) self.now.states.now (links_of self.now.ends.now)) ++ drop (3 * self.now.links) list.old }
+        requires { 3 * length self.now.ends.now ≤ length list.old }
+        ensures rooms { result ≡ rooms_over (rows_in self.now.nodes.now self.now.states.now self.now.ends.now) }
+        ensures rows { list.new ≡ flatten link_numbers (rows_in self.now.nodes.now self.now.states.now self.now.ends.now) ++ drop (3 * length self.now.ends.now) list.old }
     {
         let mut rooms = Rooms::default();
-        for i in 0..self.links {
-            let r = self.row(i);
+        for (i, ends) in self.ends.iter().enumerate() {
+            let r = self.row(*ends);
             store_row(r, list, i);
             rooms = rooms.plus(r);
         }
@@ -96,8 +93,8 @@ impl<'a> Rows<'a> {
     fn give(&self, clocks: &mut [i64], links: &mut [i64]) -> Result<Totals, Refusal>
         ensures { Given self.now.nodes.now self.now.states.now self.now.ends.now clocks.old links.old result clocks.new links.new }
     {
-        let m = self.states.len();
-        let n = self.links;
+        let m = self.nodes.len();
+        let n = self.ends.len();
         if clocks.len() < PER_CLOCK * m || links.len() < PER_LINK * n {
             return Err(Refusal {
                 cause: Cause::ShortResult,

@@ -7,7 +7,7 @@ use Rattle.sizing.proofs.Rows.give.Goals.{then-clocks-m-via-then-clocks-m, then-
 
 pub returns-then-clocks-m : goal.returns-then-clocks-m
 returns-then-clocks-m c =
-    short _ _ _ _ c.args.self.now.ready c.args.clocks.now c.args.links.now _
+    short _ _ _ c.args.self.now.ready c.args.clocks.now c.args.links.now _
     (elim c.then-clocks-m.branch [
       | then-clocks-m-via-then-clocks-m w ↦ inl w.if-clocks-m.true
       | then-clocks-m-via-else-clocks-m+then-links-n w ↦ inr (w.if-clocks-m.false, w.if-links-n.true)
@@ -16,5 +16,5 @@ returns-then-clocks-m c =
 
 pub returns : goal.returns
 returns c =
-    given_all _ _ _ _ c.args.self.now.ready c.args.clocks.now c.args.links.now c.if-clocks-m.false c.if-links-n.false c.fill_links-rooms.result _ _ c.fill_clocks.ensures
+    given_all _ _ _ c.args.self.now.ready c.args.clocks.now c.args.links.now c.if-clocks-m.false c.if-links-n.false c.fill_links-rooms.result _ _ c.fill_clocks.ensures
     c.fill_links-rooms.ensures.rooms c.fill_links-rooms.ensures.rows
