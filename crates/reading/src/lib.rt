@@ -67,7 +67,13 @@ fn clock(start: Cursor, s: &[u8], words: &[Entry], clocks: &[Entry]) -> Read<Mar
 
 // n clocks: the cursor past them; their nodes and states are left in the tables.
 // A loop of its own: a clock also reads the table that it is stored in.
-fn clock_rows(start: Cursor, s: &[u8], words: &[Entry], n: usize, tables: &mut Tables) -> Read<usize>
+fn clock_rows(
+    start: Cursor,
+    s: &[u8],
+    words: &[Entry],
+    n: usize,
+    tables: &mut Tables,
+) -> Read<usize>
     requires { n ≤ clocks_most }
     ensures { ClockRows (rows_at (clock_at s.now words.now) n [] start.at) result tables.new.nodes tables.new.states }
 {

@@ -4,7 +4,6 @@ use mathlib.Core.Bool.{true, false}
 use mathlib.Core.List.{List}
 use Prim.Native.Nat.{ℕ, ◌≤◌, ◌<◌}
 use native.Mathlib.Omega.{arith}
-use lib.IntN.{ℤ}
 use lib.ListN.{length}
 use lib.Dec.{leb}
 use borrow.Author.Tests.{leb-true, le-leb}
@@ -13,9 +12,11 @@ use Rattle.envelope.specs.declared.Node.{Node}
 use Rattle.link.specs.declared.Row.{Row}
 use Rattle.reading.specs.declared.Found.{Found}
 use Rattle.sizing.specs.declared.Rooms.{Rooms}
+use Rattle.sheet.specs.Sheet.{Link}
 use Rattle.sheet.specs.Reader.{read_sheet}
 use Rattle.sheet.specs.SheetRead.{SheetRead}
 use Rattle.reading.specs.Inner.Sections.{reading_of}
+use Rattle.reading.proofs.Answered.{reading_got, reading_refused}
 use Rattle.sizing.specs.Inner.Rows.{FoundIn, InTables}
 use Rattle.sizing.proofs.Outcome.{rows_are}
 use Rattle.line.specs.Text.{Out, top, put, put_line, Put}
@@ -63,21 +64,15 @@ whole_put ss xs rs o p w w' rooms cs q r =
 module _ (s : List ℕ) where
   pub listed_refused : (text : List ℕ) (e : Refusal) → reading_of (read_sheet s) ≡ Err e → ListsInto s text (Err e) text
   unfolding listed_of text_after
-  listed_refused text e h = go (read_sheet s) refl h
-    where
-      go : (x : Read SheetRead) → read_sheet s ≡ x → reading_of x ≡ Err e → ListsInto s text (Err e) text
-      go (got o c) is h = absurd (cc)
-      go (refused number place) is h = let same : refusal number place ≡ e = cc in record { answer_is = rw (is, same); text_is = rw is }
-
-  was_read : (x : Read SheetRead) (f : Found) → reading_of x ≡ Ok f → (o : SheetRead) × (c : ℕ) × (x ≡ got o c)
-  was_read (got o c) f h = (o, c, refl)
-  was_read (refused number place) f h = absurd (cc)
+  listed_refused text e h =
+      let r = reading_refused (read_sheet s) e h in
+      record { answer_is = rw (r.2, r.3); text_is = rw r.2 }
 
   -- where the tables show the sheet, theirs is its text
-  module _ {f : Found} {t : List ℤ} {ss es : List ℕ} (h : FoundIn s f t ss es) (t' : List ℤ) (ss' es' : List ℕ) (shown : (o : SheetRead) (c : ℕ) → read_sheet s ≡ got o c → InTables o t' ss' es') where
+  module _ {f : Found} {t : List Node} {ss : List ℕ} {es : List Link} (h : FoundIn s f t ss es) (t' : List Node) (ss' : List ℕ) (es' : List Link) (shown : (o : SheetRead) (c : ℕ) → read_sheet s ≡ got o c → InTables o t' ss' es') where
     text_is : (o : SheetRead) × (c : ℕ) × (read_sheet s ≡ got o c) × (table_text t' ss' es' ≡ sheet_text o)
     text_is =
-        let w = was_read (read_sheet s) f h.told in
+        let w = reading_got (read_sheet s) f h.told in
         let d = shown w.0 w.1 w.2 in
         (w.0, w.1, w.2, rw (d.links, d.nodes, d.states, rows_are w.0 w.0.sheet.links) refl)
 

@@ -4,15 +4,12 @@
 ghost use Rattle.std.specs.Prelude.{◌≡◌, ◌≤◌, leb, length};
 ghost use Rattle.line.specs.Text.{put, put_field, put_fields, put_line, Put};
 ghost use Rattle.line.specs.Writing.{out_in, Leaves};
-ghost use Rattle.expression.specs.Inner.Nodes.{nodes_in};
-ghost use Rattle.reading.specs.Inner.Sections.{links_of};
 ghost use Rattle.sizing.specs.Inner.Rows.{rows_in};
 ghost use Rattle.line.specs.Letters.{letters};
 ghost use Rattle.report.specs.Listing.{state_word, verdict_word, envelope_fields, clock_fields, link_fields, room_fields, clock_lines, listing_most, fitted_text, over, ListsInto};
 ghost use Rattle.report.specs.Inner.Parts.{LinksPut, table_text};
 
 use envelope::Envelope;
-use expression::entry;
 use line::{LINE_FEED, Writer};
 use link::{Row, Verdict};
 use reading::Tables;
@@ -83,21 +80,20 @@ fn put_room(out: &mut Writer<'_>, rooms: Rooms)
 }
 
 fn put_clocks(out: &mut Writer<'_>, rows: &Rows)
-    ensures { Leaves out.old out.new (put (out_in out.old) (clock_lines 0 rows.now.states.now (nodes_in rows.now.nodes.now))) }
+    ensures { Leaves out.old out.new (put (out_in out.old) (clock_lines 0 rows.now.states.now rows.now.nodes.now)) }
 {
-    for (i, &state) in rows.states.iter().enumerate() {
-        let x = entry(rows.nodes, i);
-        put_clock(out, i, state, x.envelope);
+    for (i, x) in rows.nodes.iter().enumerate() {
+        put_clock(out, i, rows.states[i], x.node().envelope);
     }
 }
 
 // The links' lines, and both rooms.
 fn put_links(out: &mut Writer<'_>, rows: &Rows) -> Rooms
-    ensures { LinksPut out.old (rows_in (nodes_in rows.now.nodes.now) rows.now.states.now (links_of rows.now.ends.now)) out.new result }
+    ensures { LinksPut out.old (rows_in rows.now.nodes.now rows.now.states.now rows.now.ends.now) out.new result }
 {
     let mut rooms = Rooms::default();
-    for i in 0..rows.links {
-        let r = rows.row(i);
+    for (i, ends) in rows.ends.iter().enumerate() {
+        let r = rows.row(*ends);
         put_link(out, i, r);
         rooms = rooms.plus(r);
     }

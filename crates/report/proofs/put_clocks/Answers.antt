@@ -10,7 +10,8 @@ use Rattle.report.proofs.put_clocks.Goals as goal
 
 pub loop-i-preserved : goal.loop-i-preserved
 loop-i-preserved c =
-    let next = clocks_next c.args.rows.now.nodes.now c.args.rows.now.states.now c.args.rows.now.ready.many c.loop-i.i c.loop-i-test.true _ c.entry-x.ensures in
+    let rows = c.args.rows.now in
+    let next = clocks_next rows.nodes.now rows.states.now c.loop-i.i (omega (arith, rows.ready.many)) (omega arith) c.node.result (rw c.node.ensures.node c.x-item.is) in
     record {
       same = c.put_clock.ensures.same ∙ c.loop-i.invariant.same;
       going = put_more _ _ (letters "clock") _ _ _ next c.put_clock.ensures.put ∙ c.loop-i.invariant.going;
@@ -19,7 +20,7 @@ loop-i-preserved c =
 pub returns : goal.returns
 unfolding put
 returns c =
-    let done : c.loop-i.i ≡ length c.args.rows.now.states.now = omega arith in
+    let done : c.loop-i.i ≡ length c.args.rows.now.states.now = omega (arith, c.args.rows.now.ready.many) in
     record {
       same = c.loop-i.invariant.same;
       put = rw (clocks_none c.args.rows.now.nodes.now c.args.rows.now.states.now c.loop-i.i done) at c.loop-i.invariant.going;

@@ -1,8 +1,8 @@
 -- What the code's parts are given and answer on the way to the listing: clocks and links in tables.
-use Rattle.std.specs.Prelude.{◌≡◌, List, ℕ, ℤ}
+use Rattle.std.specs.Prelude.{◌≡◌, List, ℕ}
 use Rattle.link.specs.declared.Row.{Row}
-use Rattle.expression.specs.Inner.Nodes.{nodes_in}
-use Rattle.reading.specs.Inner.Sections.{links_of}
+use Rattle.envelope.specs.declared.Node.{Node}
+use Rattle.sheet.specs.Sheet.{Link}
 use Rattle.sizing.specs.Inner.Rows.{rows_in, rooms_over}
 use Rattle.line.specs.Text.{put}
 use Rattle.line.specs.declared.Writer.{Writer}
@@ -16,5 +16,5 @@ pub record LinksPut (w : Writer) (rs : List Row) (w' : Writer) (rooms : Rooms) :
   pub sums : rooms ≡ rooms_over rs
 
 -- the text of a sheet whose nodes, states and links' ends are in tables
-abbrev pub table_text : List ℤ → List ℕ → List ℕ → List ℕ
-table_text t ss es = whole_text ss (nodes_in t) (rows_in (nodes_in t) ss (links_of es))
+abbrev pub table_text : List Node → List ℕ → List Link → List ℕ
+table_text t ss es = whole_text ss t (rows_in t ss es)
