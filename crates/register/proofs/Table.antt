@@ -13,12 +13,11 @@ use Rattle.reply.specs.Refusal.{RefusedWith}
 use Rattle.field.specs.Read.{Read, Read.got, Read.refused}
 use Rattle.field.proofs.Read.{refused_got, same_refused}
 use Rattle.expression.specs.Expression.{Clock}
-use Rattle.expression.proofs.Lookup.{lookup_none}
+use Rattle.expression.proofs.Lookup.{lookup_none, lookup_past}
 use Rattle.sheet.specs.Reader.{read_sheet}
 use Rattle.sheet.specs.SheetRead.{SheetRead}
 use Rattle.sheet.proofs.Refusing.Format.{refused_listed, listed_refused, accepted_passed, passed_accepted}
 use Rattle.sheet.proofs.Refusing.Numbers.{one_to_ten}
-use Rattle.finding.proofs.Finds.{past_the_last}
 use Rattle.sizing.proofs.Table.{refused_as}
 use Rattle.register.specs.Closing.{closing_of, closing_reply}
 use Rattle.register.specs.Quoting.{quoting_of, quote_reply}
@@ -51,7 +50,7 @@ module _ (s : List ℕ) (i : ℕ) where
 
   listed_quoting : {number place : ℕ} → QuoteRefused s i number place → quoting_of s i ≡ refused number place
   listed_quoting (QuoteRefused.in_sheet {number = number} {place = place} r) = quoting_refused s i number place (listed_refused s r)
-  listed_quoting (QuoteRefused.no_such_clock o w h) = quoting_absent s i o (length s) (passed_accepted s o (length s) w refl) (past_the_last o.sheet.clocks i h)
+  listed_quoting (QuoteRefused.no_such_clock o w h) = quoting_absent s i o (length s) (passed_accepted s o (length s) w refl) (lookup_past o.sheet.clocks i h)
 
   -- ---- closing
   closing_listed : (number place : ℕ) → closing_of s i ≡ refused number place → CloseRefused s i number place
@@ -69,7 +68,7 @@ module _ (s : List ℕ) (i : ℕ) where
 
   listed_closing : {number place : ℕ} → CloseRefused s i number place → closing_of s i ≡ refused number place
   listed_closing (CloseRefused.unquoted (QuoteRefused.in_sheet {number = number} {place = place} r)) = closing_refused s i number place (listed_refused s r)
-  listed_closing (CloseRefused.unquoted (QuoteRefused.no_such_clock o w h)) = closing_absent s i o (length s) (passed_accepted s o (length s) w refl) (past_the_last o.sheet.clocks i h)
+  listed_closing (CloseRefused.unquoted (QuoteRefused.no_such_clock o w h)) = closing_absent s i o (length s) (passed_accepted s o (length s) w refl) (lookup_past o.sheet.clocks i h)
   listed_closing (CloseRefused.already o w m) = closing_already s i o (length s) (passed_accepted s o (length s) w refl) m.0 m.1 m.2
 
   -- ---- as the replies have them
