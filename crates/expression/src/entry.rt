@@ -7,26 +7,32 @@ use envelope::{Envelope, Node};
 use std::marker::Model;
 
 // Four numbers of 32 bits, which every taken envelope fits: half of what a `Node` takes, since tables stand on the stack.
+// l and n stand less 1, so that zeros are an entry: a table that begins with anything else is made elsewhere and copied.
 #[derive(Clone, Copy)]
 pub struct Entry {
     k: i32,
     K: i32,
-    l: u32,
-    n: u32,
+    l_less_one: u32,
+    n_less_one: u32,
 }
 
 impl Model for Entry {
+    ghost use Rattle.std.specs.Prelude.{◌+◌, ◌-◌};
     ghost use Rattle.envelope.specs.declared.Node.{Node};
     ghost use Rattle.envelope.specs.Envelope.{numbers, Taken};
     ghost use Rattle.envelope.specs.Made.{node_of};
 
     ghost Value = { Node };
 
-    ghost view = { λ x. node_of (numbers x.k x.K x.l x.n) };
+    ghost view = { λ x. node_of (numbers x.k x.K (x.l_less_one + 1) (x.n_less_one + 1)) };
 
-    ghost invariant = { λ x. Taken (numbers x.k x.K x.l x.n) };
+    ghost invariant = { λ x. Taken (numbers x.k x.K (x.l_less_one + 1) (x.n_less_one + 1)) };
 
-    ghost inverse = { λ x. record { k = x.envelope.k; K = x.envelope.K; l = x.envelope.l; n = x.envelope.n } };
+    ghost inverse = { λ x. record { k = x.envelope.k; K = x.envelope.K; l_less_one = x.envelope.l - 1; n_less_one = x.envelope.n - 1 } };
+
+    ghost use Rattle.std.proofs.Math.Nat.{add-sub_cancel};
+
+    ghost inverse_ok = { λ x h i. record { k = x.k; K = x.K; l_less_one = add-sub_cancel x.l_less_one 1 i; n_less_one = add-sub_cancel x.n_less_one 1 i } };
 }
 
 impl Entry {
@@ -38,8 +44,8 @@ impl Entry {
         Entry {
             k: e.k as i32,
             K: e.K as i32,
-            l: e.l as u32,
-            n: e.n as u32,
+            l_less_one: (e.l - 1) as u32,
+            n_less_one: (e.n - 1) as u32,
         }
     }
 
@@ -50,8 +56,8 @@ impl Entry {
         Entry {
             k: 0,
             K: 0,
-            l: 1,
-            n: 1,
+            l_less_one: 0,
+            n_less_one: 0,
         }
     }
 
@@ -63,8 +69,8 @@ impl Entry {
             envelope: Envelope {
                 k: self.k as i64,
                 K: self.K as i64,
-                l: self.l as u64,
-                n: self.n as u64,
+                l: self.l_less_one as u64 + 1,
+                n: self.n_less_one as u64 + 1,
             },
         }
     }

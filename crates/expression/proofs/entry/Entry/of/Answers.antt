@@ -1,4 +1,6 @@
 -- The edges of a taken envelope fit 32 bits.
+use mathlib.Core.Path.{◌≡◌}
+use Prim.Native.Nat.{◌+◌, ◌-◌}
 use native.Mathlib.Omega.{arith}
 use mir.Syntax.{w32}
 use mir.Val.{SFits}
@@ -12,4 +14,6 @@ invariant_of-result c =
     let h = c.requires.limits in
     let k_fits : SFits w32 c.args.x.envelope.k = sfits_small (omega (arith, k_up _ h, k_down _ h)) in
     let K_fits : SFits w32 c.args.x.envelope.K = sfits_small (omega (arith, K_up _ h, K_down _ h)) in
-    rw (k_held _ h, K_held _ h, to_z-of_z k_fits, to_z-of_z K_fits) c.requires
+    let l_back : c.args.x.envelope.l - 1 + 1 ≡ c.args.x.envelope.l = omega (arith, c.requires.n_least, c.requires.n_most) in
+    let n_back : c.args.x.envelope.n - 1 + 1 ≡ c.args.x.envelope.n = omega (arith, c.requires.n_least) in
+    rw (k_held _ h, K_held _ h, to_z-of_z k_fits, to_z-of_z K_fits, l_back, n_back) c.requires
