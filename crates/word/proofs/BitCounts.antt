@@ -3,19 +3,20 @@
 use mathlib.Core.Path.{◌≡◌, refl, ap, ◌∙◌}
 use mathlib.Core.Bool.{Bool, cond}
 use mathlib.Core.List.{List, [], ◌∷◌, ◌++◌}
-use Prim.Native.Nat.{ℕ, zero, suc, ◌+◌, ◌-◌, ◌≤◌, ◌<◌}
+use Prim.Native.Nat.{ℕ, zero, suc, ◌+◌, ◌-◌, ◌≤◌, ◌<◌, min}
 use native.Mathlib.Numerals.{sub-one}
 use native.Mathlib.Omega.{arith}
 use lib.Dec.{leb, eqb}
-use lib.ListN.{length, take, drop, length-append}
+use lib.ListN.{length, get_or, take, drop, length-append}
 use lib.Seq.{take_at, drop_at}
-use borrow.Author.Tests.{le-leb}
-use Rattle.reply.specs.Numbers.{unknown, no_one}
+use borrow.Author.Tests.{le-leb, lt-ltb, le-ltb}
+use Rattle.std.proofs.lemmas.List.{get_or-take, get_or-drop, length-take, length-drop}
+use Rattle.reply.specs.Numbers.{missing, unknown, no_one}
 use Rattle.field.specs.Read.{Read, Read.got, Read.refused, bind, mapped}
 use Rattle.field.proofs.Read.{mapped_got, mapped_refused}
 use Rattle.field.specs.Spelling.{AllBytes}
-use Rattle.field.specs.Field.{field_in}
-use Rattle.field.proofs.Fields.{field_there}
+use Rattle.field.specs.Field.{low_first, field_at, field_in}
+use Rattle.field.proofs.Fields.{low_first_none, low_first_more, field_short, field_whole, field_there}
 use Rattle.field.proofs.Spelling.{join, end, part}
 use Rattle.envelope.specs.Stream.{value}
 use Rattle.envelope.specs.Word.{ones_in, word_of}
@@ -29,6 +30,40 @@ bit_value : (b : ℕ) → b < 2 → value (eqb b 1) ≡ b
 bit_value zero h = refl
 bit_value (suc zero) h = refl
 bit_value (suc (suc b)) h = absurd (omega arith)
+
+-- ---- a bit as it stands: none, one, or another byte
+module _ (s : List ℕ) (a : ℕ) where
+  pub bit_missing : length s ≤ a → field_in 1 0 2 unknown s a ≡ refused missing a
+  unfolding field_in
+  bit_missing h = rw (field_short 1 s a (omega arith))
+
+  module _ (b : ℕ) (there : a < length s) (is : get_or s a 0 ≡ b) where
+    byte : field_at 1 s a ≡ got b (a + 1)
+    byte =
+        let v : low_first 1 s a ≡ b = low_first_more s 0 (a + 1) 1 a refl refl ∙ rw (low_first_none s (a + 1), is) (omega arith) in
+        field_whole 1 s a (omega arith) ∙ ap (λ (x : ℕ). got x (a + 1)) v
+
+    pub bit_got : b < 2 → field_in 1 0 2 unknown s a ≡ got b (a + 1)
+    unfolding field_in
+    bit_got h = rw (byte, le-leb 0 b (omega arith), lt-ltb b 2 h)
+
+    pub bit_unknown : 2 ≤ b → field_in 1 0 2 unknown s a ≡ refused unknown a
+    unfolding field_in
+    bit_unknown h = rw (byte, le-leb 0 b (omega arith), le-ltb b 2 h)
+
+-- how many bits are there, of n
+pub lent_many : (s : List ℕ) (a n m : ℕ) → m ≡ min n (length (take (length s - a) (drop a s)))
+    → (length (take m (take (length s - a) (drop a s))) ≡ m) × (m ≤ length s - a) × (m ≤ n) × (m < n → m ≡ length s - a)
+lent_many s a n m e =
+    let rest : length (take (length s - a) (drop a s)) ≡ length s - a = simp (length-take, length-drop) (omega arith) in
+    let front : length (take m (take (length s - a) (drop a s))) ≡ min m (length s - a) = length-take m (take (length s - a) (drop a s)) ∙ ap (min m) rest in
+    let is : m ≡ min n (length s - a) = e ∙ ap (min n) rest in
+    (omega arith, omega arith, omega arith, λ h. omega arith)
+
+-- a bit of those that are there
+pub lent_bit : (s : List ℕ) (a m i : ℕ) → i < m → m ≤ length s - a → get_or (take m (take (length s - a) (drop a s))) i 0 ≡ get_or s (a + i) 0
+lent_bit s a m i h l =
+    get_or-take m (take (length s - a) (drop a s)) i 0 h ∙ get_or-take (length s - a) (drop a s) i 0 (omega arith) ∙ get_or-drop a s i 0
 
 -- ---- n bits from a on, after m 1s
 abbrev pub counted : ℕ → List ℕ → ℕ → ℕ → Read ℕ

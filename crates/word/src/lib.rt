@@ -1,7 +1,7 @@
 // Words: their bits, read one by one, and their envelopes.
 #![tactic(auto)]
 
-ghost use Rattle.std.specs.Prelude.{◌≡◌, ◌-◌, ◌*◌, ◌≤◌, ◌<◌, pos, ◌-ℤ◌, length, take, drop};
+ghost use Rattle.std.specs.Prelude.{◌≡◌, ◌-◌, ◌*◌, ◌≤◌, ◌<◌, pos, ◌-ℤ◌, length, take, drop, IfOk};
 ghost use Rattle.envelope.specs.Word.{bit_at, ones_in, word_of};
 ghost use Rattle.word.specs.Inner.Span.{including_of, span_of};
 ghost use Rattle.field.specs.Field.{read_of};
@@ -77,18 +77,29 @@ fn envelope_of(bits: &[u8], prefix: usize, ones: u64) -> Envelope
     Envelope::result(s.k, s.K, l, n)
 }
 
-// n bits: how many of them are 1.
+// n bits: how many of them are 1. Where fewer bytes are left, those are tested first.
 fn bits(start: Cursor, s: &[u8], n: usize) -> Read<usize>
-    ensures { read_of result ≡ mapped ones_in (bits_at n s.now start.at) }
+    requires { start.at ≤ length s.now }
+    ensures read { read_of result ≡ mapped ones_in (bits_at n s.now start.at) }
+    ensures there { IfOk result (λ x. x.1.at ≤ length s.now) }
 {
-    let mut c = start;
+    let rest = &s[start.at..];
+    let there = n.min(rest.len());
     let mut ones: usize = 0;
-    for _ in 0..n {
-        let (b, next) = c.within(s, 1, 0, 2, Cause::Unknown)?;
-        ones += b;
-        c = next;
+    for (i, &b) in rest[..there].iter().enumerate() {
+        if 1 < b {
+            let at = start.at + i;
+            return Err(Cursor { at }.refusal(Cause::Unknown));
+        }
+        ones += b as usize;
     }
-    Ok((ones, c))
+    let end = Cursor {
+        at: start.at + there,
+    };
+    if there < n {
+        return Err(end.refusal(Cause::Missing));
+    }
+    Ok((ones, end))
 }
 
 // The bits of a word: its prefix, then its period.

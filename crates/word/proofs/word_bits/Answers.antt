@@ -8,7 +8,7 @@ use Rattle.word.proofs.word_bits.Goals.{In_ok-ones}
 
 -- where the bits lie, once both parts are read
 lay : (c : In_ok-ones) → Lain c.args.prefix c.args.period c.args.s.now c.args.start.at c.in_ok-c.c.at c.in_ok-ones.d.at c.in_ok-ones.ones
-lay c = lain _ _ c.args.s.now (λ j. (c.type_inv.s j).fits) _ _ _ c.requires.2 _ _ (sym c.in_ok-c.ensures) (sym c.in_ok-ones.ensures)
+lay c = lain _ _ c.args.s.now (λ j. (c.type_inv.s j).fits) _ _ _ c.requires.2 _ _ (sym c.in_ok-c.ensures.read) (sym c.in_ok-ones.ensures.read)
 
 pub returns-then-ones-eq0 : goal.returns-then-ones-eq0
 returns-then-ones-eq0 c = rw c.refusal.ensures (sym ((lay (goal.at.returns-then-ones-eq0 c).In_ok-ones).without c.if-ones-eq0.true))
