@@ -1,9 +1,9 @@
 // A node as tables keep it.
-ghost use Rattle.std.specs.Prelude.{◌≡◌, pos};
+ghost use Rattle.std.specs.Prelude.{◌≡◌, pos, IfOk};
 ghost use Rattle.envelope.specs.Envelope.{numbers, Taken};
-ghost use Rattle.envelope.specs.Made.{node_of};
+ghost use Rattle.envelope.specs.Made.{node_of, negated_of, on_within_limits};
 
-use envelope::{Envelope, Node};
+use envelope::{Envelope, Made, Node};
 use std::marker::Model;
 
 // Four numbers of 32 bits, which every taken envelope fits: half of what a `Node` takes, since tables stand on the stack.
@@ -73,5 +73,23 @@ impl Entry {
                 n: self.n_less_one as u64 + 1,
             },
         }
+    }
+
+    // What not makes of it. Not inlined, as `on`: up to thirteen calls of `evaluate` are open, and each would hold a rule's numbers.
+    #[inline(never)]
+    pub fn negated(self) -> Made
+        ensures value { result ≡ negated_of self.envelope }
+        ensures taken { IfOk result (λ x. Taken x.envelope) }
+    {
+        self.node().envelope.negated()
+    }
+
+    // What its 1s read of the other.
+    #[inline(never)]
+    pub fn on(self, read: Entry) -> Made
+        ensures value { result ≡ on_within_limits self.envelope read.envelope }
+        ensures taken { IfOk result (λ x. Taken x.envelope) }
+    {
+        self.node().envelope.on_within_limits(read.node().envelope)
     }
 }

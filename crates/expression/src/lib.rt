@@ -5,7 +5,6 @@ mod entry;
 
 ghost use Rattle.std.specs.Prelude.{◌≡◌, ℕ, IfOk};
 ghost use Rattle.envelope.specs.Envelope.{Taken};
-ghost use Rattle.envelope.specs.Made.{negated_of, on_within_limits};
 ghost use Rattle.expression.specs.Evaluate.{worth_of};
 ghost use Rattle.field.specs.Field.{read_of};
 ghost use Rattle.field.specs.Read.{mapped};
@@ -105,7 +104,6 @@ fn listed(c: Cursor, s: &[u8], table: &[Entry]) -> Read<Entry>
 }
 
 // A declared node, whose tag stands at `tag`.
-#[inline(never)]
 #[tactic(auto, unfolding(crate::specs::Inner::Parts::declared_at))]
 fn declared(c: Cursor, s: &[u8], tag: Cursor) -> Read<Entry>
     ensures { read_of result ≡ declared_at s.now tag.at c.at }
@@ -115,23 +113,6 @@ fn declared(c: Cursor, s: &[u8], tag: Cursor) -> Read<Entry>
     let (l, c) = c.within(s, 4, 1, Envelope::L_MOST as usize + 1, Cause::Beyond)?;
     let (n, c) = c.within(s, 4, 1, l + 1, Cause::Beyond)?;
     place(Envelope::declared(k, top, l as u64, n as u64), c, tag)
-}
-
-// What not makes of its part, up to c. The rules' results stay out of the frames of `evaluate`, of which thirteen can be open.
-#[inline(never)]
-fn negated(x: Entry, c: Cursor, tag: Cursor) -> Read<Entry>
-    ensures { read_of result ≡ placed (worth_of (negated_of x.envelope)) c.at tag.at }
-{
-    place(x.node().envelope.negated(), c, tag)
-}
-
-// What on makes of its parts, up to c.
-#[inline(never)]
-fn on(left: Entry, right: Entry, c: Cursor, tag: Cursor) -> Read<Entry>
-    ensures { read_of result ≡ placed (worth_of (on_within_limits left.envelope right.envelope)) c.at tag.at }
-{
-    let made = left.node().envelope.on_within_limits(right.node().envelope);
-    place(made, c, tag)
 }
 
 // An expression, of which `depth` levels are left.
@@ -151,14 +132,23 @@ pub fn evaluate(
     match tag {
         Tag::Word => listed(c, s, words),
         Tag::Declared => declared(c, s, start),
-        Tag::Not => {
-            let (x, c) = evaluate(c, s, words, clocks, depth - 1)?;
-            negated(x, c, start)
-        }
-        Tag::On => {
-            let (left, c) = evaluate(c, s, words, clocks, depth - 1)?;
-            let (right, c) = evaluate(c, s, words, clocks, depth - 1)?;
-            on(left, right, c, start)
+        // One arm, and no `?`: with an arm and `?` for each, a level takes 368 bytes of stack in place of 256.
+        Tag::Not | Tag::On => {
+            let left = evaluate(c, s, words, clocks, depth - 1);
+            let Ok((x, mut c)) = left else {
+                return left;
+            };
+            let made = if let Tag::Not = tag {
+                x.negated()
+            } else {
+                let right = evaluate(c, s, words, clocks, depth - 1);
+                let Ok((y, next)) = right else {
+                    return right;
+                };
+                c = next;
+                x.on(y)
+            };
+            place(made, c, start)
         }
         Tag::Clock => listed(c, s, clocks),
     }

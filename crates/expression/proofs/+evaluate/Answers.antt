@@ -1,7 +1,9 @@
 -- What stands at the tag and in each part decides.
+use mathlib.Core.Logic.{inl, inr}
 use borrow.Author.Rules.{rules}
 use Rattle.expression.proofs.Answers.{answer_is}
 use Rattle.expression.proofs.+evaluate.Goals as goal
+use Rattle.expression.proofs.+evaluate.Goals.{in-Not-tag, in_default-tag+in-Ok-right}
 
 pub returns-in_err-tag : goal.returns-in_err-tag
 returns-in_err-tag t c = rw answer_is (search rules)
@@ -18,17 +20,23 @@ returns-in-Declared t c = rw answer_is (search rules)
 pub returns-in-Clock : goal.returns-in-Clock
 returns-in-Clock t c = rw answer_is (search rules)
 
-pub returns-in_err-x-in-Not : goal.returns-in_err-x-in-Not
-returns-in_err-x-in-Not t c = rw answer_is (search rules)
+pub returns-in_default : goal.returns-in_default
+returns-in_default t c = elim c.in-Not.is [
+  | inl e ↦ rw (answer_is, ← c.in_ok-tag.ensures, e) (search rules)
+  | inr e ↦ rw (answer_is, ← c.in_ok-tag.ensures, e) (search rules)
+]
 
-pub returns-in_ok-x-in-Not : goal.returns-in_ok-x-in-Not
-returns-in_ok-x-in-Not t c = rw answer_is (search rules)
+pub returns-in_default-right : goal.returns-in_default-right
+returns-in_default-right t c = elim c.in-Not.is [
+  | inl e ↦ absurd (c.in_default-tag.not-Not e)
+  | inr e ↦ rw (answer_is, ← c.in_ok-tag.ensures, e) (search rules)
+]
 
-pub returns-in_err-left-in-On : goal.returns-in_err-left-in-On
-returns-in_err-left-in-On t c = rw answer_is (search rules)
-
-pub returns-in_err-right-in-On : goal.returns-in_err-right-in-On
-returns-in_err-right-in-On t c = rw answer_is (search rules)
-
-pub returns-in_ok-right-in-On : goal.returns-in_ok-right-in-On
-returns-in_ok-right-in-On t c = rw answer_is (search rules)
+pub returns-after-tag-2 : goal.returns-after-tag-2
+returns-after-tag-2 t c = elim c.match-tag-2.branch [
+  | in-Not-tag w ↦ rw (answer_is, ← c.in_ok-tag.ensures, w.in-Not-tag.is) (search rules)
+  | in_default-tag+in-Ok-right w ↦ elim c.in-Not.is [
+    | inl e ↦ absurd (w.in_default-tag.not-Not e)
+    | inr e ↦ rw (answer_is, ← c.in_ok-tag.ensures, e) (search rules)
+  ]
+]
