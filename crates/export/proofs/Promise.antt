@@ -2,6 +2,7 @@
 use mathlib.Core.Logic.{◌≢◌}
 use mathlib.Core.Path.{refl, ◌≡◌, sym, ap, ap₂, ◌∙◌}
 use mathlib.Core.List.{List}
+use Prim.Native.Nat.{ℕ}
 use lib.ListN.{length}
 use Rattle.std.specs.Prelude.{Result, Ok, Err}
 use Rattle.reply.specs.declared.Refusal.{Refusal}

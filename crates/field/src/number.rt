@@ -16,6 +16,7 @@ pub fn low_first(s: &[u8], at: usize, width: usize) -> usize
     ensures { result ≡ low_first width s.now at }
 {
     let mut v: usize = 0;
+    // By the index: of a slice's iterator from the end only what is left is known, and the proof over it is twice as long.
     for i in (0..width).rev() {
         v = v * 256 + s[at + i] as usize;
     }

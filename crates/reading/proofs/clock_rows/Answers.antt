@@ -2,7 +2,7 @@
 -- Assumes nothing.
 use Rattle.std.proofs.Common.{◌≡◌, Ok, refl, sym, arith}
 use Rattle.envelope.specs.Envelope.{Taken}
-use Rattle.word.proofs.Refusals.{read_passed_on}
+use Rattle.field.proofs.Read.{read_passed_on}
 use Rattle.reading.proofs.Sections.NodeTables.{stored_holds}
 use Rattle.reading.proofs.Sections.ClockTable.{mark_taken, kept_none, kept_more, kept_refused, kept_all, clocks_refused}
 use Rattle.reading.proofs.clock_rows.Goals as goal

@@ -3,7 +3,7 @@ use Rattle.std.proofs.Common.{◌*◌, ◌≤◌, length, sym, ◌∙◌, arith}
 use lib.Seq.{length-take-le}
 use Rattle.expression.specs.Inner.Nodes.{per_node}
 use Rattle.sheet.specs.Sheet.{words_most}
-use Rattle.word.proofs.Refusals.{passed_on}
+use Rattle.reply.proofs.Refusals.{passed_on}
 use Rattle.reading.proofs.Sections.Stages.{too_long, words_refused, few_words, words_hold, words_then}
 use Rattle.reading.proofs.read.Goals as goal
 use Rattle.reading.proofs.read.Goals.{In_ok-w}

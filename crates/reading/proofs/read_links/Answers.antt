@@ -5,7 +5,7 @@ use Rattle.field.specs.Read.{Read.got}
 use Rattle.field.proofs.Fields.{there}
 use Rattle.sheet.specs.Sheet.{links_most}
 use Rattle.sheet.specs.Reader.{link_at}
-use Rattle.word.proofs.Refusals.{read_passed_on}
+use Rattle.field.proofs.Read.{read_passed_on}
 use Rattle.reading.proofs.Sections.Readings.{section_none, section_rows, reached_refused, reached_all}
 use Rattle.reading.proofs.Sections.LinkTable.{link_anywhere, ends_there, ended_none, ended_more, rows_refused, rows_got}
 use Rattle.reading.proofs.read_links.Goals as goal

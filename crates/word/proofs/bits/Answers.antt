@@ -1,7 +1,7 @@
 -- `bits` meets its contract: the bits that are left are counted on from the 1s so far.
 -- Assumes nothing.
 use Rattle.std.proofs.Common.{◌≡◌, ◌<◌, ◌-◌, ◌+◌, sym, ◌∙◌, arith}
-use Rattle.word.proofs.Refusals.{read_passed_on}
+use Rattle.field.proofs.Read.{read_passed_on}
 use Rattle.field.proofs.Fields.{there}
 use Rattle.word.proofs.BitCounts.{count_start, count_more, count_refused, count_all}
 use Rattle.word.proofs.bits.Goals as goal
