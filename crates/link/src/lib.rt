@@ -81,7 +81,7 @@ impl Verdict {
     }
 }
 
-// The state of a link, from those of its ends.
+// The state of a link, from those of its ends: bytes of the sheet and numbers of the result slices, so they stay numbers.
 pub fn state_of(producer: u8, consumer: u8) -> u8
     ensures { result ≡ state_of producer consumer }
 {
