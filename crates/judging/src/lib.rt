@@ -15,6 +15,7 @@ pub const LONGEST: usize = 4_096;
 // e and d stay two parameters, and Taken and a pattern's bounds clauses: e is one through a pattern and d new at each bit, `next` writes the pattern, and envelope's methods ask for Taken too.
 
 // Whether a 1 may follow where n*i - l*j is d.
+#[tactic(auto, unfolding(crate::specs::Inner::Scan::one_at))]
 pub fn one_at(e: Envelope, d: i64) -> bool
     requires { Taken e }
     ensures { result ≡ one_at e d }
@@ -23,6 +24,7 @@ pub fn one_at(e: Envelope, d: i64) -> bool
 }
 
 // Whether a 0 may follow there.
+#[tactic(auto, unfolding(crate::specs::Inner::Scan::zero_at))]
 pub fn zero_at(e: Envelope, d: i64) -> bool
     requires { Taken e }
     ensures { result ≡ zero_at e d }
@@ -146,6 +148,7 @@ fn largest(pattern: &[u8]) -> u8
 }
 
 // How many bytes come before the first that is neither 0 nor 1.
+#[tactic(auto, using(crate::proofs::Loops::largest_plain))]
 fn plain_len(pattern: &[u8]) -> usize
     ensures { result ≡ plain pattern.now }
 {
@@ -169,6 +172,7 @@ pub fn admit(e: Envelope, pattern: &[u8]) -> Result<(), Refusal>
 }
 
 // 12 to 15, or n*i - l*j past a pattern that is inside.
+#[tactic(auto, using(reply::proofs::Refusals::passed_on, crate::proofs::Admitted::not_admitted, crate::proofs::Admitted::is_admitted), unfolding(crate::specs::Inner::Scan::end_offset))]
 pub fn judge(e: Envelope, pattern: &[u8]) -> Result<i64, Refusal>
     ensures { result ≡ end_offset e pattern.now }
 {

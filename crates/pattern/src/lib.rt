@@ -93,6 +93,7 @@ pub fn first(e: Envelope, pattern: &mut [u8]) -> Result<Answer, Refusal>
 }
 
 // Turns the pattern into its successor, answers that it is the last, or 12 to 15.
+#[tactic(auto, using(crate::proofs::Answers::next_bad))]
 pub fn next(e: Envelope, pattern: &mut [u8]) -> Result<Answer, Refusal>
     ensures { Nexts e pattern.old result pattern.new }
 {
