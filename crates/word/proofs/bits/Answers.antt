@@ -1,18 +1,14 @@
 -- `bits` meets its contract: the bits that are left are counted on from the 1s so far.
 -- Assumes nothing.
 use Rattle.std.proofs.Common.{◌≡◌, ◌<◌, ◌-◌, ◌+◌, sym, ◌∙◌, arith}
-use Rattle.field.proofs.Read.{read_passed_on}
 use Rattle.field.proofs.Fields.{there}
-use Rattle.word.proofs.BitCounts.{count_start, count_more, count_refused, count_all}
+use Rattle.word.proofs.BitCounts.{count_more}
 use Rattle.word.proofs.bits.Goals as goal
 use Rattle.word.proofs.bits.Goals.{In_ok-b}
 
 -- a bit is 0 or 1
 bit : (c : In_ok-b) → c.in_ok-b.b < 2
 bit c = (there _ _ _ _ _ _ c.within.ensures c.in_ok-b.was).most
-
-pub returns-in_err-b : goal.returns-in_err-b
-returns-in_err-b c = read_passed_on _ _ c.from_residual.ensures (sym (count_start _ _ _ ∙ c.loop.invariant.so_far ∙ count_refused _ _ _ _ _ _ (omega arith) (sym c.in_err-b.ensures)))
 
 pub overflow_add-ones : goal.overflow_add-ones
 overflow_add-ones c = record { fits = omega (arith, bit (goal.at.overflow_add-ones c).In_ok-b) }
@@ -21,7 +17,3 @@ pub loop-preserved : goal.loop-preserved
 loop-preserved c =
     let less : c.args.n - c.loop.counter - 1 ≡ c.args.n - (c.loop.counter + 1) = omega arith in
     record { few = omega (arith, bit (goal.at.loop-preserved c).In_ok-b); so_far = c.loop.invariant.so_far ∙ rw (← less) (count_more _ _ _ _ _ _ (omega arith) (sym c.in_ok-b.ensures)) }
-
-pub returns : goal.returns
-returns c = let none : c.args.n - c.loop.counter ≡ 0 = omega arith in
-    sym (count_start _ _ _ ∙ c.loop.invariant.so_far ∙ count_all _ _ _ _ none)
