@@ -16,7 +16,7 @@ use Rattle.link.proofs.Links.{links}
 use Rattle.pattern.proofs.Promises.{patterns}
 use Rattle.std.specs.Prelude.{Result, Ok, Err}
 use Rattle.reply.specs.declared.Refusal.{Refusal}
-use Rattle.reply.specs.Refusal.{refusal}
+use Rattle.reply.specs.Inner.Causes.{refusal}
 use Rattle.sizing.specs.declared.Totals.{Totals}
 use Rattle.sheet.specs.Reader.{read_sheet}
 use Rattle.sheet.specs.SheetRead.{SheetRead}

@@ -16,7 +16,7 @@ use Rattle.envelope.specs.Stream.{Stream, ones, Position, Keeps, Lies, Has, not_
 use Rattle.envelope.specs.Envelope.{not_of}
 use Rattle.envelope.proofs.Counts.{ones_one, ones_zero, ones_none, earlier}
 use Rattle.envelope.proofs.Streams.{later}
-use Rattle.envelope.proofs.Tests.{not_true}
+use Rattle.std.proofs.lemmas.Bool.{not-true}
 use Rattle.envelope.proofs.Result.{result_keeps}
 
 -- the 0s and the 1s of the first t are t
@@ -85,7 +85,7 @@ not_keeps s e h p = result_keeps _ _ _ _ (not_bits s.bit) (record { low = low_at
     low_at : (j t : ℕ) → Position (not_bits s.bit) j t → (pos (l * j) +ℤ (pos n -ℤ e.K)) ≤ℤ pos ((l - n) * t)
     low_at j t q =
         let o : ℕ = ones s.bit t in
-        let z : s.bit t ≡ false = not_true (s.bit t) q.is_one in
+        let z : s.bit t ≡ false = not-true (s.bit t) q.is_one in
         let x = later s (suc t) o (omega (arith, ones_zero s.bit t z)) in
         let c : j + o ≡ t = ap (λ (i : ℕ). i + o) (sym q.before) ∙ zeros_ones s.bit t in
         let y : pos (n * x.0) ≤ℤ (pos (l * o) +ℤ e.K) = p.high o x.0 x.2 in

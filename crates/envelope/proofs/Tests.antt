@@ -8,6 +8,7 @@ use Prim.Native.Nat.{ℕ}
 use native.Mathlib.Omega.{arith}
 use lib.Dec.{T, leb, eqb}
 use borrow.Author.Tests.{leb-true, eqb-true, le-leb, eq-eqb}
+use Rattle.std.proofs.lemmas.Bool.{not-true}
 use Rattle.whole.specs.Euclid.{gcd_of}
 use Rattle.whole.proofs.Bridge.{lt_z_true, lt_z_false, ≤ℤ-shows, <ℤ-shows, orders}
 use Rattle.envelope.specs.declared.Envelope.{Envelope}
@@ -53,10 +54,6 @@ in_time k l n h = go (before_start k l n) refl
     go : (b : Bool) → before_start k l n ≡ b → b ≡ false
     go false e = refl
     go true e = let s = is_before k l n e in absurd (omega (arith, orders, s.2, h s.0 s.1))
-
-pub not_true : (b : Bool) → not b ≡ true → b ≡ false
-not_true false h = refl
-not_true true h = absurd (false≢true h)
 
 -- ---- the tests of an envelope
 module _ (e : Envelope) where
@@ -105,7 +102,7 @@ module _ (e : Envelope) where
         n_most = leb-true _ _ n.1;
         limits = within_limits_lem m.0;
         room = room_true r.1;
-        at_rate_one = not_before e.k e.l e.n (not_true _ s.1);
+        at_rate_one = not_before e.k e.l e.n (not-true _ s.1);
       }
 
   pub taken_is : Taken e → is_taken e ≡ true

@@ -78,7 +78,7 @@ impl Envelope {
         Envelope { k, K, l, n }
     }
 
-    // The four numbers made normal.
+    // The four numbers made normal. Four numbers here too: they are no envelope before it.
     #[tactic(auto, using(crate::proofs::Held::divisor_least, crate::proofs::Held::divisor_most), unfolding(crate::specs::Envelope::normal_of))]
     pub fn normal(k: i64, K: i64, l: u64, n: u64) -> Envelope
         requires { (0 < n) × (n < 2 ^ 63) }
@@ -154,7 +154,7 @@ impl Envelope {
             && !Envelope::before_start(self.k, self.l, self.n)
     }
 
-    // A declared node of four fields within their limits.
+    // A declared node of four fields within their limits. Four numbers here too: they are no envelope before it.
     #[tactic(auto, unfolding(crate::specs::Made::declared_of))]
     pub fn declared(k: i64, K: i64, l: u64, n: u64) -> Made
         requires { Fields k K l n }

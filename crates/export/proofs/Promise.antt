@@ -3,17 +3,13 @@ use mathlib.Core.Logic.{◌≢◌}
 use mathlib.Core.Path.{refl, ◌≡◌, sym, ap, ap₂, ◌∙◌}
 use mathlib.Core.List.{List}
 use Prim.Native.Nat.{ℕ}
-use native.Mathlib.Omega.{arith}
 use lib.ListN.{length}
 use Rattle.std.specs.Prelude.{Result, Ok, Err}
-use Rattle.reply.specs.declared.Cause.{Cause}
-use Rattle.reply.specs.declared.Cause.TheVariants.{Missing, Beyond, Unknown, NoOne, Absent, TooDeep, Empty, FullRate, Outgrown, Trailing, ShortResult, NoEnvelope, LongPattern, NotABit, Outside, NoClock, AlreadyClosed}
 use Rattle.reply.specs.declared.Refusal.{Refusal}
-use Rattle.reply.specs.Refusal.{cause_number}
 use Rattle.sizing.specs.declared.Totals.{Totals}
 use Rattle.report.specs.Listing.{over}
 use Rattle.export.specs.Flat.{work_out_reply, quote_written}
-use Rattle.export.specs.Promise.{NoSecondReply, NoTotals, NoCauseIsZero, NothingOnRefusal}
+use Rattle.export.specs.Promise.{NoSecondReply, NoTotals, NothingOnRefusal}
 
 pub no_second_reply : NoSecondReply
 no_second_reply =
@@ -36,25 +32,3 @@ empty (Err e) h = record { clocks = refl; links = refl; opened = refl; whole = r
 
 pub nothing_on_refusal : NothingOnRefusal
 nothing_on_refusal = record { no_totals = λ s clocks links cs ls r a h. rw a.reply_is (empty a.answer (rw (← a.reply_is) h)) }
-
-not_0 : (c : Cause) → cause_number c ≢ 0
-not_0 Missing h = absurd (omega arith)
-not_0 Beyond h = absurd (omega arith)
-not_0 Unknown h = absurd (omega arith)
-not_0 NoOne h = absurd (omega arith)
-not_0 Absent h = absurd (omega arith)
-not_0 TooDeep h = absurd (omega arith)
-not_0 Empty h = absurd (omega arith)
-not_0 FullRate h = absurd (omega arith)
-not_0 Outgrown h = absurd (omega arith)
-not_0 Trailing h = absurd (omega arith)
-not_0 ShortResult h = absurd (omega arith)
-not_0 NoEnvelope h = absurd (omega arith)
-not_0 LongPattern h = absurd (omega arith)
-not_0 NotABit h = absurd (omega arith)
-not_0 Outside h = absurd (omega arith)
-not_0 NoClock h = absurd (omega arith)
-not_0 AlreadyClosed h = absurd (omega arith)
-
-pub no_cause_is_zero : NoCauseIsZero
-no_cause_is_zero = record { not_0 = not_0 }

@@ -1,8 +1,6 @@
 -- What each entry point promises C: what the function behind it promises, with the answer as C has it.
 use Rattle.std.specs.Prelude.{◌≡◌, ◌≢◌, List, ℕ, ℤ, length, Result}
-use Rattle.reply.specs.declared.Cause.{Cause}
 use Rattle.reply.specs.declared.Refusal.{Refusal}
-use Rattle.reply.specs.Refusal.{cause_number}
 use Rattle.sizing.specs.WorkOut.{WorksOut}
 use Rattle.register.specs.Quoting.{Quotes, RepliesTo}
 use Rattle.report.specs.Listing.{over}
@@ -38,10 +36,6 @@ pub record NoTotals (r : TxoriWorkOut) : Type 0 where
   pub links : r.links ≡ 0
   pub opened : r.opened ≡ 0
   pub whole : r.whole ≡ 0
-
--- 0 stands for no refusal: no cause has that number
-pub record NoCauseIsZero : Type 0 where
-  pub not_0 : (c : Cause) → cause_number c ≢ 0
 
 -- "A refusal returns number and place, every count and total 0": of any sheet s, whatever the two lent slices are
 pub record NothingOnRefusal : Type 0 where

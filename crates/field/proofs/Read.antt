@@ -3,9 +3,12 @@ use mathlib.Core.Path.{◌≡◌, refl, sym, ap, ◌∙◌}
 use mathlib.Core.Bool.{Bool, true, false, cond}
 use Prim.Native.Nat.{ℕ}
 use Rattle.std.specs.Prelude.{Result, Ok, Err}
+use Rattle.std.specs.Result.{IsErr, IsErrAnd}
 use Rattle.reply.specs.declared.Cause.{Cause}
 use Rattle.reply.specs.declared.Refusal.{Refusal}
+use Rattle.reply.specs.Refusal.{cause_number}
 use Rattle.reply.proofs.Causes.{cause_with_number}
+use Rattle.reply.proofs.Refusals.{passed_on}
 use Rattle.field.specs.declared.Cursor.{Cursor}
 use Rattle.field.specs.Field.{read_of, answer_of}
 use Rattle.field.specs.Read.{Read, Read.got, Read.refused, bind, mapped}
@@ -51,3 +54,7 @@ answered (Err r) = ap (λ (k : Cause). Err (record { cause = k; place = r.place 
 -- an answer whose reading is known
 pub answer_is : {A : Type 0} {r : Result (A × Cursor) Refusal} {f : Read A} → read_of r ≡ f → r ≡ answer_of f
 answer_is {r = r} e = sym (answered r) ∙ ap answer_of e
+
+-- what the exit of a `?` answers, as a reading
+pub read_passed_on : {A : Type 0} (r : Result (A × Cursor) Refusal) (e : Refusal) {X : Read A} → IsErr r × IsErrAnd r (λ y. y ≡ e) → refused (cause_number e.cause) e.place ≡ X → read_of r ≡ X
+read_passed_on r e h f = ap read_of (passed_on r e h) ∙ f

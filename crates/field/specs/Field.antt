@@ -4,7 +4,8 @@ use Rattle.std.specs.Int.Signed.{lt_z}
 use Rattle.reply.specs.Numbers.{missing, beyond}
 use Rattle.field.specs.Read.{Read, Read.got, Read.refused, bind}
 use Rattle.reply.specs.declared.Refusal.{Refusal}
-use Rattle.reply.specs.Refusal.{cause_number, refusal}
+use Rattle.reply.specs.Refusal.{cause_number}
+use Rattle.reply.specs.Inner.Causes.{refusal}
 use Rattle.field.specs.declared.Cursor.{Cursor}
 
 -- "Numbers are low byte first": the number that w bytes from a on spell

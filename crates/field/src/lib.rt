@@ -23,10 +23,7 @@ impl Cursor {
     pub fn refusal(self, cause: Cause) -> Refusal
         ensures { result ≡ record { cause = cause; place = self.at } }
     {
-        Refusal {
-            cause,
-            place: self.at,
-        }
+        Refusal::at(cause, self.at)
     }
 
     // A field of `width` bytes.

@@ -10,12 +10,14 @@ pub const HALF_32: u64 = 2147483648;
 pub const HALF_64: u64 = 9223372036854775808;
 
 // The number that `width` bytes from `at` on spell.
+#[tactic(auto, using(crate::proofs::Fields::low_first_none, crate::proofs::Fields::low_first_more, crate::proofs::Fields::low_most, crate::proofs::Spelling::limit7))]
 pub fn low_first(s: &[u8], at: usize, width: usize) -> usize
     requires width_bound { width ≤ 8 }
     requires width_in_bounds { at + width ≤ length s.now }
     ensures { result ≡ low_first width s.now at }
 {
     let mut v: usize = 0;
+    // By the index: of an iterator from the end only what is left is known, so that the proof is 40 lines where this one has 8.
     for i in (0..width).rev() {
         v = v * 256 + s[at + i] as usize;
     }
@@ -23,6 +25,7 @@ pub fn low_first(s: &[u8], at: usize, width: usize) -> usize
 }
 
 // Puts x in `width` bytes from `at` on, and answers the place past them.
+#[tactic(auto, using(crate::proofs::Spelling::none_left, crate::proofs::Spelling::part_put))]
 pub fn put_low_first(out: &mut [u8], at: usize, width: usize, x: u64) -> usize
     requires { at + width ≤ length out.old }
     ensures place { result ≡ at + width }

@@ -1,7 +1,7 @@
 -- Every figure of document 01 that is starred, and more, follows from the definitions by computing: one claim over one list.
 -- Assumes nothing.
 use mathlib.Core.Path.{◌≡◌, refl}
-use Rattle.reply.specs.Refusal.{cause_with}
+use Rattle.reply.specs.Inner.Causes.{cause_with}
 use Rattle.whole.specs.Euclid.{euclid, gcd_of}
 use Rattle.field.specs.Field.{low_first, field_at, field_in, signed, signed_at, signed_in}
 use Rattle.envelope.specs.Stream.{ones}

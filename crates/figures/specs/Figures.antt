@@ -5,7 +5,7 @@ use Rattle.sizing.specs.Figures as sheets
 use Rattle.envelope.specs.declared.Envelope.{Envelope}
 use Rattle.envelope.specs.Envelope.{numbers}
 use Rattle.reply.specs.declared.Refusal.{Refusal}
-use Rattle.reply.specs.Refusal.{refusal}
+use Rattle.reply.specs.Inner.Causes.{refusal}
 use Rattle.pattern.specs.declared.Answer.{Answer}
 use Rattle.pattern.specs.declared.Answer.TheVariants.{Inside, Done, Last}
 use Rattle.pattern.specs.Answer.{check_answer, first_answer, first_bytes, next_answer, next_bytes}

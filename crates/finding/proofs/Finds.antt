@@ -8,7 +8,8 @@ use lib.ListN.{length, get_elem?}
 use Rattle.std.specs.Prelude.{Ok, Err}
 use Rattle.reply.specs.Numbers.{no_clock}
 use Rattle.reply.specs.declared.Refusal.{Refusal}
-use Rattle.reply.specs.Refusal.{cause_number, refusal}
+use Rattle.reply.specs.Refusal.{cause_number}
+use Rattle.reply.specs.Inner.Causes.{refusal}
 use Rattle.reply.proofs.Causes.{number_back}
 use Rattle.field.specs.Read.{Read, Read.got, Read.refused, bind, mapped}
 use Rattle.field.specs.Spelling.{AllBytes}

@@ -12,10 +12,10 @@ use Rattle.judging.specs.Bytes.{longest}
 use Rattle.judging.specs.Inner.Scan.{admitted}
 
 -- a refusal of an admission is one of all that is asked only after it
-pub not_admitted : {A : Type 0} (e : Envelope) (p : List ℕ) (a : Result A Refusal) (r : Refusal) → Err r ≡ admitted e p → Err r ≡ cond (is_taken e) (cond (ltb longest (length p)) (refused_for LongPattern 0) a) (refused_for NoEnvelope 0)
-not_admitted {A} e p a r q = go (is_taken e) (ltb longest (length p)) q
+pub not_admitted : {A B : Type 0} (e : Envelope) (p : List ℕ) (x : A) (b : Result B Refusal) (r : Refusal) → Err r ≡ admitted e p (Ok x) → Err r ≡ admitted e p b
+not_admitted {A} {B} e p x b r q = go (is_taken e) (ltb longest (length p)) q
   where
-    go : (s t : Bool) → ◌≡◌ {A = Result (Unit {0}) Refusal} (Err r) (cond s (cond t (refused_for LongPattern 0) (Ok tt)) (refused_for NoEnvelope 0)) → ◌≡◌ {A = Result A Refusal} (Err r) (cond s (cond t (refused_for LongPattern 0) a) (refused_for NoEnvelope 0))
+    go : (s t : Bool) → ◌≡◌ {A = Result A Refusal} (Err r) (cond s (cond t (refused_for LongPattern 0) (Ok x)) (refused_for NoEnvelope 0)) → ◌≡◌ {A = Result B Refusal} (Err r) (cond s (cond t (refused_for LongPattern 0) b) (refused_for NoEnvelope 0))
     go true true q = cc
     go true false q = absurd (cc)
     go false t q = cc
@@ -26,10 +26,11 @@ pub record Admitted (e : Envelope) (p : List ℕ) : Type 0 where
   pub taken : Taken e
   pub short : length p ≤ longest
 
-pub is_admitted : (e : Envelope) (p : List ℕ) → Ok tt ≡ admitted e p → Admitted e p
-is_admitted e p q = go (is_taken e) (ltb longest (length p)) refl refl q
+-- an answer that is no refusal is one of all that is asked after the admission
+pub is_admitted : {A : Type 0} (e : Envelope) (p : List ℕ) (a : Result A Refusal) (x : A) → Ok x ≡ admitted e p a → Admitted e p × (Ok x ≡ a)
+is_admitted {A} e p a x q = go (is_taken e) (ltb longest (length p)) refl refl q
   where
-    go : (s t : Bool) → is_taken e ≡ s → ltb longest (length p) ≡ t → ◌≡◌ {A = Result (Unit {0}) Refusal} (Ok tt) (cond s (cond t (refused_for LongPattern 0) (Ok tt)) (refused_for NoEnvelope 0)) → Admitted e p
+    go : (s t : Bool) → is_taken e ≡ s → ltb longest (length p) ≡ t → ◌≡◌ {A = Result A Refusal} (Ok x) (cond s (cond t (refused_for LongPattern 0) a) (refused_for NoEnvelope 0)) → Admitted e p × (Ok x ≡ a)
     go true true es et q = absurd (cc)
-    go true false es et q = record { fine = es; taken = is_taken_lem e es; short = ltb-false longest (length p) et }
+    go true false es et q = (record { fine = es; taken = is_taken_lem e es; short = ltb-false longest (length p) et }, q)
     go false t es et q = absurd (cc)

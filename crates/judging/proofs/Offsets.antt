@@ -1,14 +1,13 @@
 -- How far an offset n*i - l*j is from 0, and what the machine holds of it and of the code's sums.
 -- Assumes nothing.
-use Rattle.std.proofs.Common.{◌≡◌, ℕ, zero, suc, ◌+◌, ◌*◌, ◌^◌, ◌<◌, ◌≤◌, Bool, true, false, ℤ, pos, negsuc, ◌+ℤ◌, ◌-ℤ◌, nat_abs, ◌≤ℤ◌, refl, ap, mul-zero, mul-one, arith, to_z-of_z, w64, SFits, to_z, of_z, leb-false}
+use Rattle.std.proofs.Common.{◌≡◌, ℕ, zero, suc, ◌+◌, ◌*◌, ◌<◌, ◌≤◌, Bool, true, false, ℤ, pos, negsuc, ◌-ℤ◌, refl, ap, mul-zero, mul-one, arith, to_z-of_z, w64, SFits, to_z, of_z, leb-false}
 use lib.Signed.{le_z}
-use Rattle.whole.proofs.Bridge.{up, down, sum, diff, up_neg, down_neg, whole_ext, le_z_true, ≤ℤ-reads, ≤ℤ-shows, up_most, down_most, up_sum_le, down_sum_le, up_diff_le, down_diff_le, sfits_small}
+use Rattle.whole.proofs.Bridge.{up, down, diff, up_neg, down_neg, whole_ext, le_z_true, ≤ℤ-shows, up_most, down_most, up_sum_le, down_sum_le, up_diff_le, down_diff_le, sfits_small}
 use Rattle.envelope.specs.declared.Envelope.{Envelope}
 use Rattle.envelope.specs.Envelope.{Taken}
 use Rattle.envelope.specs.Limits.{l_most}
-use Rattle.envelope.proofs.Held.{n_small, k_up, k_down, K_up, K_down}
 use Rattle.judging.specs.Bytes.{longest}
-use Rattle.judging.specs.Inner.Scan.{Near, one_at, zero_at, may_at, step_of, offset_after, floor_of}
+use Rattle.judging.specs.Inner.Scan.{Near, step_of, offset_after}
 
 -- x is not at most y: y is below x
 pub le_z_false : (x y : ℤ) → le_z x y ≡ false → up y + down x < up x + down y
@@ -26,14 +25,6 @@ le_z_same x y u v f g = go (le_z x y) (le_z u v) refl refl
     go false false p q = refl
     go true false p q = absurd (let h = le_z_false u v q in let k = f (le_z_true x y p) in omega arith)
     go false true p q = absurd (let h = le_z_false x y p in let k = g (le_z_true u v q) in omega arith)
-
--- a 0 may follow, as the code tests it
-pub zero_by_room : (e : Envelope) (d : ℤ) → le_z d (e.K -ℤ pos e.n) ≡ zero_at e d
-unfolding zero_at
-zero_by_room e d =
-    let s = sum d (pos e.n) in
-    let t = diff e.K (pos e.n) in
-    le_z_same d (e.K -ℤ pos e.n) (d +ℤ pos e.n) e.K (λ h. omega (arith, s, t)) (λ h. omega (arith, s, t))
 
 -- ---- how far an offset is from 0
 pub near_start : Near 0 (pos 0)
@@ -73,53 +64,6 @@ near_on e t i d b v =
 pub near_held : (i : ℕ) (d : ℤ) → i ≤ longest → Near i d → to_z w64 (of_z w64 d) ≡ d
 near_held i d h v = let r = near_reads i d v in to_z-of_z {w = w64} (sfits_small (omega arith))
 
-module _ (e : Envelope) (t : Taken e) (d : ℤ) (v : Near longest d) where
-  pub on_fits : (b : ℕ) → SFits w64 (offset_after e d b)
-  on_fits b =
-      let r = near_reads longest d v in
-      let s = step_near e t b in
-      sfits_small (omega (arith, up_sum_le d (step_of e b), down_sum_le d (step_of e b)))
-
-pub room_fits : (e : Envelope) → Taken e → SFits w64 (e.K -ℤ pos e.n)
-room_fits e t =
-    sfits_small
-    (omega (arith, up_diff_le e.K (pos e.n), down_diff_le e.K (pos e.n), n_small e t, K_up e t.limits, K_down e t.limits))
-
--- K and the floor are as near as an offset
-pub K_near : (e : Envelope) → Taken e → Near longest e.K
-K_near e t = near_shows longest e.K (omega (arith, K_up e t.limits)) (omega (arith, K_down e t.limits))
-
-pub floor_near : (e : Envelope) → Taken e → Near longest (floor_of e)
-floor_near e t =
-    let s = step_near e t 1 in
-    near_shows longest (floor_of e)
-    (omega (arith, up_sum_le e.k (step_of e 1), k_up e t.limits))
-    (omega (arith, down_sum_le e.k (step_of e 1), k_down e t.limits))
-
-pub floor_fits : (e : Envelope) → Taken e → SFits w64 (floor_of e)
-floor_fits e t = let r = near_reads longest (floor_of e) (floor_near e t) in sfits_small (omega arith)
-
-pub floor_below : (e : Envelope) → Taken e → floor_of e ≤ℤ e.K
-floor_below e t =
-    ≤ℤ-shows
-    (omega (arith, sum e.k (step_of e 1), diff (pos e.n) (pos e.l), diff e.K e.k, ≤ℤ-reads t.room, t.n_least, t.n_most))
-
-pub gap_fits : (x y : ℤ) → Near longest x → Near longest y → SFits w64 (x -ℤ y)
-gap_fits x y v w =
-    let r = near_reads longest x v in
-    let s = near_reads longest y w in
-    sfits_small (omega (arith, up_diff_le x y, down_diff_le x y))
-
-pub gap_small : (x y : ℤ) → Near longest x → Near longest y → nat_abs (x -ℤ y) < 2 ^ 64
-gap_small x y v w =
-    let r = near_reads longest x v in
-    let s = near_reads longest y w in
-    go (x -ℤ y) (omega (arith, up_diff_le x y, down_diff_le x y))
-  where
-    go : (z : ℤ) → up z + down z ≤ 20_000_000_000 → nat_abs z < 2 ^ 64
-    go (pos a) h = omega arith
-    go (negsuc a) h = omega arith
-
 pub step_fits : (e : Envelope) → Taken e → (b : ℕ) → SFits w64 (step_of e b)
 step_fits e t b = let s = step_near e t b in sfits_small (omega arith)
 
@@ -133,8 +77,3 @@ pub step_is : (e : Envelope) (b : ℕ) → b ≤ 1 → pos e.n -ℤ pos (e.l * b
 step_is e zero h = whole_ext (omega (arith, diff (pos e.n) (pos (e.l * 0)), mul-zero e.l))
 step_is e (suc zero) h = ap (λ (k : ℕ). pos e.n -ℤ pos k) (mul-one e.l)
 step_is e (suc (suc b)) h = absurd (omega arith)
-
--- ---- of a byte that is not 0
-pub may_one : (e : Envelope) (d : ℤ) (b : ℕ) → 0 < b → may_at e d b ≡ one_at e d
-may_one e d zero h = absurd (omega arith)
-may_one e d (suc b) h = refl

@@ -71,11 +71,6 @@ module _ (e : Envelope) where
 pub not_less : (x y : ℤ) → lt_z x y ≡ false → y ≤ℤ x
 not_less x y q = ≤ℤ-shows (omega (arith, lt_z_false x y q))
 
--- what is not above the top is within the room
-pub within_room : (r room : ℕ) (low x top : ℤ) → pos r +ℤ low ≡ x → pos room +ℤ low ≡ top → x ≤ℤ top → r ≤ room
-within_room r room low x top p q h =
-    omega (arith, sum (pos r) low, sum (pos room) low, ap up p, ap down p, ap up q, ap down q, ≤ℤ-reads h)
-
 -- a step of n - b and then the sum, both of which may wrap: a result that is small has not gone below 0
 pub not_wrapped : (x b n : ℕ) → x ≤ 2_001_000_000 → b ≤ l_most → n ≤ l_most → (x + (n + (2 ^ 64 - b)) % 2 ^ 64) % 2 ^ 64 ≤ 2_001_000_000 → (x + (n + (2 ^ 64 - b)) % 2 ^ 64) % 2 ^ 64 + b ≡ x + n
 not_wrapped x b n hx hb hn hr = omega arith

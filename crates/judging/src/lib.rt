@@ -1,10 +1,10 @@
 // Whether a pattern is inside an envelope.
 #![tactic(auto)]
 
-ghost use Rattle.std.specs.Prelude.{◌≡◌, ◌<◌, ◌≤◌, length, pos, ◌+ℤ◌, ◌≤ℤ◌, IfSome};
+ghost use Rattle.std.specs.Prelude.{◌≡◌, ◌<◌, ◌≤◌, length, pos, ◌+ℤ◌, ◌≤ℤ◌, IfSome, Ok};
 ghost use Rattle.envelope.specs.Envelope.{Taken};
 ghost use Rattle.judging.specs.Bytes.{longest, plain};
-ghost use Rattle.judging.specs.Inner.Scan.{Near, one_at, zero_at, may_at, step_of, offset_after, scanned, leading_of, floor_of, largest_from, Swept, admitted, judged};
+ghost use Rattle.judging.specs.Inner.Scan.{Near, one_at, zero_at, may_at, step_of, offset_after, scanned, leading_of, floor_of, largest_from, Swept, admitted, end_offset};
 
 use envelope::Envelope;
 use reply::{Cause, Refusal};
@@ -15,6 +15,7 @@ pub const LONGEST: usize = 4_096;
 // e and d stay two parameters, and Taken and a pattern's bounds clauses: e is one through a pattern and d new at each bit, `next` writes the pattern, and envelope's methods ask for Taken too.
 
 // Whether a 1 may follow where n*i - l*j is d.
+#[tactic(auto, unfolding(crate::specs::Inner::Scan::one_at))]
 pub fn one_at(e: Envelope, d: i64) -> bool
     requires { Taken e }
     ensures { result ≡ one_at e d }
@@ -23,6 +24,7 @@ pub fn one_at(e: Envelope, d: i64) -> bool
 }
 
 // Whether a 0 may follow there.
+#[tactic(auto, unfolding(crate::specs::Inner::Scan::zero_at))]
 pub fn zero_at(e: Envelope, d: i64) -> bool
     requires { Taken e }
     ensures { result ≡ zero_at e d }
@@ -62,10 +64,7 @@ fn scan(e: Envelope, pattern: &[u8]) -> Result<i64, Refusal>
     let mut d: i64 = 0;
     for (i, &b) in pattern.iter().enumerate() {
         if !may_follow(e, d, b) {
-            return Err(Refusal {
-                cause: Cause::Outside,
-                place: i,
-            });
+            return Err(Refusal::at(Cause::Outside, i));
         }
         d = moved_on(e, d, b);
     }
@@ -107,6 +106,7 @@ fn sweep(e: Envelope, room: u64, bits: &[u8], start: u64) -> Option<u64>
         let step = e.n.wrapping_sub(e.l * (b as u64));
         x = x.wrapping_add(step);
         if room < x {
+            // Not a `return`: with one the compiler adds a jump for each bit.
             break;
         }
     }
@@ -148,6 +148,7 @@ fn largest(pattern: &[u8]) -> u8
 }
 
 // How many bytes come before the first that is neither 0 nor 1.
+#[tactic(auto, using(crate::proofs::Loops::largest_plain))]
 fn plain_len(pattern: &[u8]) -> usize
     ensures { result ≡ plain pattern.now }
 {
@@ -159,34 +160,26 @@ fn plain_len(pattern: &[u8]) -> usize
 
 // 12 where four numbers are no taken envelope, 13 where a pattern is too long.
 pub fn admit(e: Envelope, pattern: &[u8]) -> Result<(), Refusal>
-    ensures { result ≡ admitted e pattern.now }
+    ensures { result ≡ admitted e pattern.now (Ok tt) }
 {
     if !e.is_taken() {
-        return Err(Refusal {
-            cause: Cause::NoEnvelope,
-            place: 0,
-        });
+        return Err(Refusal::at(Cause::NoEnvelope, 0));
     }
     if LONGEST < pattern.len() {
-        return Err(Refusal {
-            cause: Cause::LongPattern,
-            place: 0,
-        });
+        return Err(Refusal::at(Cause::LongPattern, 0));
     }
     Ok(())
 }
 
 // 12 to 15, or n*i - l*j past a pattern that is inside.
+#[tactic(auto, using(reply::proofs::Refusals::passed_on, crate::proofs::Admitted::not_admitted, crate::proofs::Admitted::is_admitted), unfolding(crate::specs::Inner::Scan::end_offset))]
 pub fn judge(e: Envelope, pattern: &[u8]) -> Result<i64, Refusal>
-    ensures { result ≡ judged e pattern.now }
+    ensures { result ≡ end_offset e pattern.now }
 {
     admit(e, pattern)?;
     let plain = plain_len(pattern);
     if plain < pattern.len() {
-        return Err(Refusal {
-            cause: Cause::NotABit,
-            place: plain,
-        });
+        return Err(Refusal::at(Cause::NotABit, plain));
     }
     sweep_or_scan(e, pattern)
 }

@@ -5,11 +5,11 @@ ghost use Rattle.std.specs.Prelude.{◌≡◌, List, ℕ};
 ghost use Rattle.line.specs.Text.{out_of, put, put_one, put_field, put_line, digits, decimal, outcome_fields};
 ghost use Rattle.line.specs.Writing.{out_in, Leaves};
 
-pub const BLANK: u8 = 32;
+pub const BLANK: u8 = b' ';
 
-pub const MINUS: u8 = 45;
+pub const MINUS: u8 = b'-';
 
-pub const LINE_FEED: u8 = 10;
+pub const LINE_FEED: u8 = b'\n';
 
 // A lent buffer, and the place where its next byte goes.
 #[derive(Drop)]
@@ -53,11 +53,11 @@ impl<'a> Writer<'a> {
         ensures { Leaves self.old self.new (put (out_in self.old) (digits x)) }
     {
         if x < 10 {
-            self.put_byte((48 + x) as u8);
+            self.put_byte(b'0' + x as u8);
             return;
         }
         self.put_digits(x / 10);
-        self.put_byte((48 + x % 10) as u8);
+        self.put_byte(b'0' + (x % 10) as u8);
     }
 
     // A number of either sign.

@@ -45,7 +45,7 @@ fn size(e: Envelope, f: Envelope) -> u64
 }
 
 // The verdict on a link from a producer in e to a consumer in f.
-#[tactic(auto, unfolding(crate::specs::Link::verdict_of))]
+#[tactic(auto, using(crate::proofs::Links::early_not), unfolding(crate::specs::Link::verdict_of))]
 pub fn judge(e: Envelope, f: Envelope) -> Verdict
     requires { Taken e × Taken f }
     ensures { result ≡ verdict_of e f }
@@ -81,7 +81,7 @@ impl Verdict {
     }
 }
 
-// The state of a link, from those of its ends.
+// The state of a link, from those of its ends: bytes of the sheet and numbers of the result slices, so they stay numbers.
 pub fn state_of(producer: u8, consumer: u8) -> u8
     ensures { result ≡ state_of producer consumer }
 {

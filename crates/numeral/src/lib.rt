@@ -34,6 +34,7 @@ fn with_figures<'a>(text: &'a [u8], part: &[u8]) -> Result<&'a str, NumberError>
     str::from_utf8(text).map_err(|_| NumberError::NotANumber)
 }
 
+#[tactic(auto, using(crate::proofs::Figures::natural_none))]
 pub fn natural(text: &[u8]) -> Result<u64, NumberError>
     ensures { result ≡ natural_of text.now }
 {
@@ -48,6 +49,7 @@ fn unsigned(text: &[u8]) -> &[u8]
     text.strip_prefix(&[line::MINUS]).unwrap_or(text)
 }
 
+#[tactic(auto, using(crate::proofs::Figures::whole_none))]
 pub fn whole_number(text: &[u8]) -> Result<i64, NumberError>
     ensures { result ≡ whole_of text.now }
 {

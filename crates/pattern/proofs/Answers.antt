@@ -21,23 +21,23 @@ use Rattle.pattern.specs.declared.Lift.{Lift}
 use Rattle.pattern.specs.declared.Answer.TheVariants.{Inside, Done, Last}
 use Rattle.judging.specs.Bytes.{longest, plain}
 use Rattle.pattern.specs.Answer.{check_answer, first_answer, first_bytes, next_of, next_answer, next_bytes, Firsts, Nexts}
-use Rattle.judging.specs.Inner.Scan.{Near, offset_after, admitted, judged}
+use Rattle.judging.specs.Inner.Scan.{Near, offset_after, admitted, end_offset}
 use Rattle.judging.proofs.Admitted.{not_admitted}
 use Rattle.pattern.specs.Inner.Lifts.{filled, reached, lift_of}
 use Rattle.judging.proofs.Offsets.{near_on, near_more, near_held}
 use Rattle.pattern.proofs.Offsets.{offset_start, filled_is, near_reached}
-use Rattle.pattern.proofs.Replies.{from_lift, next_lift, Sane, sane, answer_of, judged_check, Passes, sound_is}
+use Rattle.pattern.proofs.Replies.{from_lift, next_lift, Sane, sane, answer_of, end_check, Passes, sound_is}
 
 module _ (e : Envelope) (p : List ℕ) where
   -- ---- check
-  pub check_is : (j : Result ℤ Refusal) → j ≡ judged e p → answer_of e j ≡ check_answer e p
-  check_is j q = ap (answer_of e) q ∙ judged_check e p
+  pub check_is : (j : Result ℤ Refusal) → j ≡ end_offset e p → answer_of e j ≡ check_answer e p
+  check_is j q = ap (answer_of e) q ∙ end_check e p
 
   -- ---- first
-  pub first_bad : (r : Refusal) → Err r ≡ admitted e p → Firsts e p (Err r) p
+  pub first_bad : {A : Type 0} (x : A) (r : Refusal) → Err r ≡ admitted e p (Ok x) → Firsts e p (Err r) p
   unfolding first_answer first_bytes
-  first_bad r q =
-      let w : Err r ≡ first_answer e p = not_admitted e p (Ok Done) r q in
+  first_bad x r q =
+      let w : Err r ≡ first_answer e p = not_admitted e p x (Ok Done) r q in
       record { answer_is = w; bytes_are = rw (← w) }
 
   pub first_done : is_taken e ≡ true → length p ≤ longest → (q : List ℕ) → q ≡ filled e (pos 0) (length p) → Firsts e p (Ok Done) q
@@ -50,13 +50,13 @@ module _ (e : Envelope) (p : List ℕ) where
       }
 
   -- ---- next
-  pub next_bad : (r : Refusal) → Err r ≡ judged e p → Nexts e p (Err r) p
+  pub next_bad : (r : Refusal) → Err r ≡ end_offset e p → Nexts e p (Err r) p
   unfolding next_answer next_bytes
   next_bad r q =
       let w : check_answer e p ≡ Err r = sym (check_is (Err r) q) in
       record { answer_is = rw w; bytes_are = rw w }
 
-  module _ (end : ℤ) (q : Ok end ≡ judged e p) where
+  module _ (end : ℤ) (q : Ok end ≡ end_offset e p) where
     passing : Passes e p end
     passing = sound_is e p end q
 

@@ -8,17 +8,14 @@ use mathlib.Core.Bool.{◌&&◌}
 use mathlib.Core.List.{List, [], ◌∷◌}
 use lib.ListN.{length}
 use lib.IntN.{ℤ, pos, ◌+ℤ◌, ◌-ℤ◌}
-use Rattle.whole.proofs.Bridge.{up, down, sum, diff, whole_ext, up_diff_le, down_diff_le, sfits_small}
+use Rattle.whole.proofs.Bridge.{up, down, sum, diff, whole_ext}
 use Rattle.envelope.specs.declared.Envelope.{Envelope}
 use Rattle.envelope.specs.Envelope.{Taken}
-use mir.Syntax.{w64}
-use mir.Val.{SFits}
 use Rattle.pattern.specs.Step.{low, high, one_may, zero_may}
-use Rattle.judging.specs.Bytes.{longest}
 use Rattle.pattern.specs.Pattern.{after, may, least, fill}
 use Rattle.judging.specs.Inner.Scan.{Near, one_at, zero_at, may_at, step_of, offset_after}
 use Rattle.pattern.specs.Inner.Lifts.{filled, reached}
-use Rattle.judging.proofs.Offsets.{le_z_same, near_reads, near_start, near_on, step_near}
+use Rattle.judging.proofs.Offsets.{le_z_same, near_start, near_on}
 
 module _ (e : Envelope) where
   -- the offset of a place with i bits behind and j of them 1
@@ -74,17 +71,7 @@ near_from e t (b ∷ p) i d v = rw (add-suc, ← suc-add) (near_from e t p (suc 
 pub near_reached : (e : Envelope) → Taken e → (p : List ℕ) → Near (length p) (reached e (pos 0) p)
 near_reached e t p = rw zero-add at (near_from e t p 0 (pos 0) near_start)
 
--- ---- a step back fits, and the same step on undoes it
-module _ (e : Envelope) (t : Taken e) (d : ℤ) (v : Near longest d) where
-  pub back_fits : (b : ℕ) → SFits w64 (d -ℤ step_of e b)
-  back_fits b =
-      let r = near_reads longest d v in
-      let s = step_near e t b in
-      sfits_small (omega (arith, up_diff_le d (step_of e b), down_diff_le d (step_of e b)))
-
-pub back_on : (e : Envelope) (d : ℤ) (b : ℕ) → offset_after e (d -ℤ step_of e b) b ≡ d
-back_on e d b = whole_ext (omega (arith, sum (d -ℤ step_of e b) (step_of e b), diff d (step_of e b)))
-
+-- ---- a step on leads to one offset from one alone
 pub on_injective : (e : Envelope) (x y : ℤ) (b : ℕ) → offset_after e x b ≡ offset_after e y b → x ≡ y
 on_injective e x y b q =
     whole_ext (omega (arith, sum x (step_of e b), sum y (step_of e b), ap up q, ap down q))

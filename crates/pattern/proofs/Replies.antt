@@ -21,7 +21,6 @@ use Rattle.reply.specs.Refusal.{refused_for}
 use Rattle.envelope.specs.declared.Envelope.{Envelope}
 use Rattle.envelope.specs.Envelope.{Taken}
 use Rattle.envelope.specs.Inner.Tests.{is_taken}
-use Rattle.envelope.proofs.Tests.{is_taken_lem}
 use Rattle.pattern.specs.declared.Lift.{Lift}
 use Rattle.pattern.specs.declared.Answer.{Answer}
 use Rattle.pattern.specs.declared.Answer.TheVariants.{Inside}
@@ -29,7 +28,8 @@ use Rattle.pattern.specs.Step.{one_may, zero_may}
 use Rattle.judging.specs.Bytes.{longest, plain}
 use Rattle.pattern.specs.Pattern.{after, may, passed, next, raised}
 use Rattle.pattern.specs.Answer.{steps_of, next_of, check_answer}
-use Rattle.judging.specs.Inner.Scan.{Near, one_at, offset_after, scanned, judged}
+use Rattle.judging.specs.Inner.Scan.{Near, one_at, offset_after, scanned, admitted, end_offset}
+use Rattle.judging.proofs.Admitted.{Admitted, is_admitted}
 use Rattle.pattern.specs.Inner.Lifts.{filled, reached, lifted, last_lift, lift_of}
 use Rattle.pattern.proofs.Binary.{Bits}
 use Rattle.judging.proofs.Offsets.{near_start, near_on}
@@ -139,7 +139,7 @@ module _ (e : Envelope) where
     pub sane : (p : List ℕ) → Sane (length p) (lift_of e p)
     sane p = rw zero-add at (sane_last p 0 (pos 0) None near_start tt)
 
-  -- ---- what is judged, as an answer
+  -- ---- what the end comes to, as an answer
   abbrev pub answer_of : Result ℤ Refusal → Result Answer Refusal
   answer_of (Ok end) = Ok Inside
   answer_of (Err r) = Err r
@@ -149,19 +149,25 @@ module _ (e : Envelope) where
       subst (λ (d : ℤ). scanned e 0 d p ≡ cond (ltb (steps_of e p) (length p)) (refused_for Outside (steps_of e p)) (Ok (reached e d p))) (offset_start e)
       (rw zero-add at (scan_is p 0 0 h))
 
-  pub judged_check : (p : List ℕ) → answer_of (judged e p) ≡ check_answer e p
-  unfolding judged check_answer
-  judged_check p = go (is_taken e) (ltb longest (length p)) (ltb (plain p) (length p)) refl
+  pub end_check : (p : List ℕ) → answer_of (end_offset e p) ≡ check_answer e p
+  unfolding end_offset check_answer
+  end_check p = admission (cond (ltb (plain p) (length p)) (refused_for NotABit (plain p)) (scanned e 0 (pos 0) p)) ∙ ap (admitted e p) (go (ltb (plain p) (length p)) refl)
     where
+      admission : (x : Result ℤ Refusal) → answer_of (admitted e p x) ≡ admitted e p (answer_of x)
+      admission x = by (is_taken e) (ltb longest (length p))
+        where
+          by : (a b : Bool) → answer_of (cond a (cond b (refused_for LongPattern 0) x) (refused_for NoEnvelope 0)) ≡ cond a (cond b (refused_for LongPattern 0) (answer_of x)) (refused_for NoEnvelope 0)
+          by true true = refl
+          by true false = refl
+          by false b = refl
+
       steps : (c : Bool) → answer_of (cond c (refused_for Outside (steps_of e p)) (Ok (reached e (pos 0) p))) ≡ cond c (refused_for Outside (steps_of e p)) (Ok Inside)
       steps true = refl
       steps false = refl
 
-      go : (a b c : Bool) → ltb (plain p) (length p) ≡ c → answer_of (cond a (cond b (refused_for LongPattern 0) (cond c (refused_for NotABit (plain p)) (scanned e 0 (pos 0) p))) (refused_for NoEnvelope 0)) ≡ cond a (cond b (refused_for LongPattern 0) (cond c (refused_for NotABit (plain p)) (cond (ltb (steps_of e p) (length p)) (refused_for Outside (steps_of e p)) (Ok Inside)))) (refused_for NoEnvelope 0)
-      go true true c q = refl
-      go true false true q = refl
-      go true false false q = ap answer_of (whole_scan p (bits_of p (ltb-false (plain p) (length p) q))) ∙ steps (ltb (steps_of e p) (length p))
-      go false b c q = refl
+      go : (c : Bool) → ltb (plain p) (length p) ≡ c → answer_of (cond c (refused_for NotABit (plain p)) (scanned e 0 (pos 0) p)) ≡ cond c (refused_for NotABit (plain p)) (cond (ltb (steps_of e p) (length p)) (refused_for Outside (steps_of e p)) (Ok Inside))
+      go true q = refl
+      go false q = ap answer_of (whole_scan p (bits_of p (ltb-false (plain p) (length p) q))) ∙ steps (ltb (steps_of e p) (length p))
 
   -- a pattern that passes
   pub record Passes (p : List ℕ) (end : ℤ) : Type 0 where
@@ -170,22 +176,22 @@ module _ (e : Envelope) where
     pub all_bits : length p ≤ plain p
     pub is_end : end ≡ reached e (pos 0) p
 
-  pub sound_is : (p : List ℕ) (end : ℤ) → Ok end ≡ judged e p → Passes p end
-  unfolding judged
-  sound_is p end h = go (is_taken e) (ltb longest (length p)) (ltb (plain p) (length p)) refl refl refl h
+  pub sound_is : (p : List ℕ) (end : ℤ) → Ok end ≡ end_offset e p → Passes p end
+  unfolding end_offset
+  sound_is p end h =
+      let r = is_admitted e p _ end h in
+      go r.0 (ltb (plain p) (length p)) refl r.1
     where
       steps : (c : Bool) → Ok end ≡ cond c (refused_for Outside (steps_of e p)) (Ok (reached e (pos 0) p)) → end ≡ reached e (pos 0) p
-      steps true q = let w : ◌≡◌ {A = ℕ} 0 1 = cc in absurd (omega arith)
+      steps true q = absurd (cc)
       steps false q = cc
 
-      go : (a b c : Bool) → is_taken e ≡ a → ltb longest (length p) ≡ b → ltb (plain p) (length p) ≡ c → Ok end ≡ cond a (cond b (refused_for LongPattern 0) (cond c (refused_for NotABit (plain p)) (scanned e 0 (pos 0) p))) (refused_for NoEnvelope 0) → Passes p end
-      go true true c ea eb ec q = let w : ◌≡◌ {A = ℕ} 0 1 = cc in absurd (omega arith)
-      go true false true ea eb ec q = let w : ◌≡◌ {A = ℕ} 0 1 = cc in absurd (omega arith)
-      go true false false ea eb ec q =
+      go : Admitted e p → (c : Bool) → ltb (plain p) (length p) ≡ c → Ok end ≡ cond c (refused_for NotABit (plain p)) (scanned e 0 (pos 0) p) → Passes p end
+      go m true ec q = absurd (cc)
+      go m false ec q =
           record {
-            taken = is_taken_lem e ea;
-            short = ltb-false longest (length p) eb;
+            taken = m.taken;
+            short = m.short;
             all_bits = ltb-false (plain p) (length p) ec;
             is_end = steps (ltb (steps_of e p) (length p)) (q ∙ whole_scan p (bits_of p (ltb-false (plain p) (length p) ec)));
           }
-      go false b c ea eb ec q = let w : ◌≡◌ {A = ℕ} 0 1 = cc in absurd (omega arith)

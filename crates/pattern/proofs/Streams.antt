@@ -8,6 +8,7 @@ use mathlib.Core.Bool.{Bool, true, false, not, ◌&&◌, false≢true}
 use mathlib.Core.List.{List, [], ◌∷◌}
 use lib.ListN.{length}
 use lib.Dec.{T}
+use Rattle.std.proofs.lemmas.Bool.{not-true}
 use Rattle.envelope.specs.Stream.{Stream, value, ones}
 use Rattle.envelope.proofs.Tests.{is_true, to_t}
 use Rattle.pattern.specs.Pattern.{after, may, Inside}
@@ -125,12 +126,8 @@ module _ (low high : ℕ → ℕ → Bool) where
       live : Live t c
       inside : Inside z o t c r
 
-    not_false : (b : Bool) → not b ≡ true → b ≡ false
-    not_false true e = sym e
-    not_false false e = refl
-
     out_one : (t c : ℕ) (r : List ℕ) → Keeps t c r → out t c r ≡ true → T (o t c)
-    out_one t c [] k e = to_t (o t c) (a_step t c k.live (not_false (z t c) e))
+    out_one t c [] k e = to_t (o t c) (a_step t c k.live (not-true (z t c) e))
     out_one t c (zero ∷ r) k e = absurd (false≢true e)
     out_one t c (suc zero ∷ r) k e = k.inside.0
     out_one t c (suc (suc b) ∷ r) k e = absurd k.inside.0

@@ -2,28 +2,21 @@
 -- "Patterns: 12, 13, 14 over the whole pattern, 15."
 use Rattle.std.specs.Prelude.{ℕ, ◌≡◌, cond, List, length, ltb, Result, Ok, Err}
 use Rattle.std.proofs.Math.Option.{Option, none, some}
-use Rattle.reply.specs.declared.Cause.TheVariants.{NoEnvelope, LongPattern, NotABit, Outside}
+use Rattle.reply.specs.declared.Cause.TheVariants.{NotABit, Outside}
 use Rattle.reply.specs.declared.Refusal.{Refusal}
 use Rattle.reply.specs.Refusal.{cause_number, refused_for}
 use Rattle.envelope.specs.declared.Envelope.{Envelope}
-use Rattle.envelope.specs.Inner.Tests.{is_taken}
 use Rattle.pattern.specs.declared.Answer.{Answer}
 use Rattle.pattern.specs.declared.Answer.TheVariants.{Inside, Done, Last}
 use Rattle.pattern.specs.Step.{one_may, zero_may}
-use Rattle.judging.specs.Bytes.{longest, plain}
+use Rattle.judging.specs.Bytes.{plain}
+use Rattle.judging.specs.Inner.Scan.{admitted}
 use Rattle.pattern.specs.Pattern.{passed, fill, next}
 
 -- the number of a refusal, 0 where there is none
 abbrev pub answer_number : Result Answer Refusal → ℕ
 answer_number (Ok a) = 0
 answer_number (Err r) = cause_number r.cause
-
--- "four numbers that are no taken, normal envelope", then "pattern longer than 4,096", both at 0; else a
-abbrev pub admitted : Envelope → List ℕ → Result Answer Refusal → Result Answer Refusal
-admitted e p a =
-    cond (is_taken e)
-    (cond (ltb longest (length p)) (refused_for LongPattern 0) a)
-    (refused_for NoEnvelope 0)
 
 -- how many steps of a pattern may be taken before the first forbidden one
 abbrev pub steps_of : Envelope → List ℕ → ℕ

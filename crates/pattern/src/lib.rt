@@ -11,7 +11,7 @@ ghost use Rattle.pattern.specs.Inner.Lifts.{least_at, filled, reached, lift_of};
 use envelope::Envelope;
 use reply::Refusal;
 
-// What an entry point answers of a pattern that it does not refuse.
+// What an entry point answers of a pattern that it does not refuse: one type for all three, since `Checks`, `Firsts`, `Nexts` and `Steps` are said of it.
 #[derive(Clone, Copy, Debug, PartialEq, Eq)]
 pub enum Answer {
     Inside,
@@ -93,6 +93,7 @@ pub fn first(e: Envelope, pattern: &mut [u8]) -> Result<Answer, Refusal>
 }
 
 // Turns the pattern into its successor, answers that it is the last, or 12 to 15.
+#[tactic(auto, using(crate::proofs::Answers::next_bad))]
 pub fn next(e: Envelope, pattern: &mut [u8]) -> Result<Answer, Refusal>
     ensures { Nexts e pattern.old result pattern.new }
 {

@@ -3,7 +3,7 @@ use mathlib.Core.Path.{◌≡◌, refl}
 use Prim.Native.Nat.{ℕ}
 use Rattle.std.specs.Prelude.{Ok, Err}
 use Rattle.reply.specs.declared.Refusal.{Refusal}
-use Rattle.reply.specs.Refusal.{refusal}
+use Rattle.reply.specs.Inner.Causes.{refusal}
 use Rattle.field.specs.Read.{Read, Read.got, Read.refused}
 use Rattle.sheet.specs.SheetRead.{SheetRead}
 use Rattle.reading.specs.declared.Found.{Found}

@@ -8,7 +8,7 @@ use native.Mathlib.Omega.{arith}
 use lib.ListN.{length, get_elem?}
 use Rattle.std.specs.Prelude.{Result, Ok, Err}
 use Rattle.reply.specs.declared.Refusal.{Refusal}
-use Rattle.reply.specs.Refusal.{refusal}
+use Rattle.reply.specs.Inner.Causes.{refusal}
 use Rattle.field.specs.Read.{Read, Read.got, Read.refused}
 use Rattle.field.specs.Spelling.{AllBytes}
 use Rattle.expression.specs.Expression.{Clock}

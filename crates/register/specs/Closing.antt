@@ -4,7 +4,7 @@ use Rattle.reply.specs.Numbers.{already_closed}
 use Rattle.field.specs.Read.{Read, Read.got, Read.refused, bind}
 use Rattle.sheet.specs.Locating.{located_in}
 use Rattle.reply.specs.declared.Refusal.{Refusal}
-use Rattle.reply.specs.Refusal.{refusal}
+use Rattle.reply.specs.Inner.Causes.{refusal}
 
 -- "Closing: 1 to 10, 16, 17": the place of the state byte that is to be turned
 unfoldable pub closing_of : List ℕ → ℕ → Read ℕ

@@ -2,7 +2,7 @@
 use Rattle.std.specs.Prelude.{◌≡◌, List, [], ℕ, ◌+◌, ◌-◌, take, drop, Result, Ok, Err}
 use Rattle.field.specs.Read.{Read, Read.got, Read.refused, bind}
 use Rattle.reply.specs.declared.Refusal.{Refusal}
-use Rattle.reply.specs.Refusal.{refusal}
+use Rattle.reply.specs.Inner.Causes.{refusal}
 use Rattle.sheet.specs.Locating.{located_in}
 
 -- where the expression of clock i begins, behind its state, and the place past it; or the refusal: "1 to 10 or 16"

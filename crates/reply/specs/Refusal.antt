@@ -1,5 +1,5 @@
 -- Refusals as the code has them, and document 01's number for each cause.
-use Rattle.std.specs.Prelude.{◌≡◌, cond, List, [], ◌∷◌, ℕ, eqb, Result, Ok, Err}
+use Rattle.std.specs.Prelude.{◌≡◌, ◌≢◌, ℕ, Result, Ok, Err}
 use Rattle.reply.specs.declared.Cause.{Cause}
 use Rattle.reply.specs.declared.Cause.TheVariants.{Missing, Beyond, Unknown, NoOne, Absent, TooDeep, Empty, FullRate, Outgrown, Trailing, ShortResult, NoEnvelope, LongPattern, NotABit, Outside, NoClock, AlreadyClosed}
 use Rattle.reply.specs.declared.Refusal.{Refusal}
@@ -34,20 +34,6 @@ abbrev pub RefusedWith : {A : Type 0} → Result A Refusal → ℕ → ℕ → T
 RefusedWith (Ok x) number place = ⊥
 RefusedWith (Err r) number place = (cause_number r.cause ≡ number) × (r.place ≡ place)
 
--- all of them
-abbrev pub causes : List Cause
-causes =
-    Missing ∷ Beyond ∷ Unknown ∷ NoOne ∷ Absent ∷ TooDeep ∷ Empty ∷ FullRate ∷ Outgrown ∷ Trailing ∷ ShortResult ∷ NoEnvelope ∷ LongPattern ∷ NotABit
-    ∷ Outside ∷ NoClock ∷ AlreadyClosed ∷ []
-
--- the one of these causes that has a number; the last of document 01's where none has
-abbrev pub cause_among : List Cause → ℕ → Cause
-cause_among [] number = AlreadyClosed
-cause_among (c ∷ cs) number = cond (eqb number (cause_number c)) c (cause_among cs number)
-
-unfoldable pub cause_with : ℕ → Cause
-cause_with number = cause_among causes number
-
--- the refusal with a number and a place
-abbrev pub refusal : ℕ → ℕ → Refusal
-refusal number place = record { cause = cause_with number; place = place }
+-- 0 stands for no refusal: no cause has that number
+pub record NoCauseIsZero : Type 0 where
+  pub not_0 : (c : Cause) → cause_number c ≢ 0

@@ -42,6 +42,12 @@ pub struct Refusal {
 }
 
 impl Refusal {
+    pub fn at(cause: Cause, place: usize) -> Refusal
+        ensures { result ≡ record { cause = cause; place = place } }
+    {
+        Refusal { cause, place }
+    }
+
     pub fn number(self) -> u8
         ensures { result ≡ cause_number self.cause }
     {

@@ -15,7 +15,8 @@ use Rattle.sheet.specs.Format.{Passed}
 use Rattle.sheet.proofs.Refusing.Format.{refused_listed, listed_refused, accepted_passed, passed_accepted}
 use Rattle.sheet.proofs.Refusing.Numbers.{one_to_ten}
 use Rattle.std.specs.Prelude.{Ok, Err}
-use Rattle.reply.specs.Refusal.{cause_number, cause_with, refusal, RefusedWith}
+use Rattle.reply.specs.Refusal.{cause_number, RefusedWith}
+use Rattle.reply.specs.Inner.Causes.{cause_with, refusal}
 use Rattle.reply.proofs.Causes.{number_back}
 use native.Mathlib.Omega.{arith}
 use Rattle.report.specs.Listing.{sheet_text, listed_in, listed_of}

@@ -25,7 +25,8 @@ use Rattle.line.specs.Writing.{out_in}
 use Rattle.line.proofs.Puts.{put_then, put_line_lem, put_at, put_fits}
 use Rattle.reply.specs.declared.Cause.TheVariants.{ShortResult}
 use Rattle.reply.specs.declared.Refusal.{Refusal}
-use Rattle.reply.specs.Refusal.{refusal, refused_for}
+use Rattle.reply.specs.Refusal.{refused_for}
+use Rattle.reply.specs.Inner.Causes.{refusal}
 use Rattle.reply.proofs.Causes.{same_refusal}
 use Rattle.std.specs.Prelude.{Result, Ok, Err}
 use Rattle.line.specs.Letters.{letters}

@@ -13,7 +13,7 @@ use Rattle.sheet.specs.Reader.{read_sheet}
 use Rattle.sheet.specs.SheetRead.{SheetRead}
 use Rattle.reply.specs.declared.Refusal.{Refusal}
 use Rattle.std.specs.Prelude.{Result, Ok, Err}
-use Rattle.reply.specs.Refusal.{refusal}
+use Rattle.reply.specs.Inner.Causes.{refusal}
 use Rattle.report.specs.Listing.{sheet_text, listed_in, text_in, listed_of, text_after, ListsInto}
 
 -- what is answered and left, by what was read

@@ -15,7 +15,7 @@ use Rattle.sizing.specs.Rooms.{rows_of, total, size_of_row}
 use Rattle.line.specs.Letters.{letters}
 use Rattle.line.specs.Text.{digits, decimal, line_of, outcome_fields}
 use Rattle.reply.specs.declared.Refusal.{Refusal}
-use Rattle.reply.specs.Refusal.{refusal}
+use Rattle.reply.specs.Inner.Causes.{refusal}
 
 -- "open" or "closed"
 abbrev pub state_word : ℕ → List ℕ

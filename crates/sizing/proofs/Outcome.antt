@@ -20,7 +20,8 @@ use Rattle.reply.specs.declared.Cause.{Cause}
 use Rattle.reply.specs.declared.Cause.TheVariants.{ShortResult}
 use Rattle.reply.proofs.Causes.{cause_with_number}
 use Rattle.reply.specs.declared.Refusal.{Refusal}
-use Rattle.reply.specs.Refusal.{refusal, refused_for}
+use Rattle.reply.specs.Refusal.{refused_for}
+use Rattle.reply.specs.Inner.Causes.{refusal}
 use Rattle.reading.specs.declared.Found.{Found}
 use Rattle.sizing.specs.declared.Rooms.{Rooms}
 use Rattle.sizing.specs.declared.Totals.{Totals}

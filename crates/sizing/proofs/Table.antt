@@ -11,7 +11,8 @@ use borrow.Author.Tests.{le-leb, lt-leb, leb-true, leb-false}
 use Rattle.std.specs.Prelude.{Result, Ok, Err}
 use Rattle.reply.specs.Numbers.{short_result}
 use Rattle.reply.specs.declared.Refusal.{Refusal}
-use Rattle.reply.specs.Refusal.{cause_number, cause_with, refusal, RefusedWith}
+use Rattle.reply.specs.Refusal.{cause_number, RefusedWith}
+use Rattle.reply.specs.Inner.Causes.{cause_with, refusal}
 use Rattle.reply.proofs.Causes.{number_back}
 use Rattle.field.specs.Read.{Read, Read.got, Read.refused, bind}
 use Rattle.field.proofs.Read.{refused_got, same_refused, through, cond_left}

@@ -1,7 +1,7 @@
 -- "The listing program", its sheet, and the figures on whole sheets: what working them out gives, and what document 01 says.
 use Rattle.std.specs.Prelude.{List, [], ◌∷◌, ◌++◌, ℕ, zero, suc, ℤ, pos, neg_ℤ, replicate, Result, Ok, Err}
 use Rattle.reply.specs.declared.Refusal.{Refusal}
-use Rattle.reply.specs.Refusal.{refusal}
+use Rattle.reply.specs.Inner.Causes.{refusal}
 use Rattle.sizing.specs.declared.Totals.{Totals}
 use Rattle.sizing.specs.WorkOut.{worked_of, reply_of, clocks_out, links_out}
 

@@ -48,6 +48,7 @@ pub fn gcd(a: u64, b: u64) -> u64
 {
     let mut x = a;
     let mut y = b;
+    // A `while`: each turn goes on with a remainder, and nothing counts the turns up to a length.
     while y != 0 {
         (x, y) = (y, x % y);
     }

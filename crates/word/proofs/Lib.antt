@@ -1,4 +1,3 @@
-pub mod Refusals
 pub mod Spans
 pub mod BitCounts
 pub mod Nodes

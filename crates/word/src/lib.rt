@@ -64,6 +64,7 @@ fn offset_span(bits: &[u8], l: u64, n: u64) -> Span
 }
 
 // The envelope of a word: its first `prefix` bits, then the others for ever, `ones` of which are 1.
+#[tactic(auto, using(whole::proofs::Euclid::gcd_pos))]
 fn envelope_of(bits: &[u8], prefix: usize, ones: u64) -> Envelope
     requires prefix_in_bounds { (prefix ≤ length bits.now) × (length bits.now ≤ 128) × (length bits.now - prefix ≤ 64) }
     requires ones_nonzero { (0 < ones) × (ones ≤ 64) × (ones_in (drop prefix bits.now) ≡ ones) }

@@ -57,15 +57,13 @@ floor_of e = e.k +ℤ step_of e 1
 abbrev pub largest_from : ℕ → List ℕ → ℕ
 largest_from m p = fold max m p
 
--- 12 and 13, both at 0
-abbrev pub admitted : Envelope → List ℕ → Result (Unit {0}) Refusal
-admitted e p = cond (is_taken e) (cond (nat_lt longest (length p)) (refused_for LongPattern 0) (Ok tt)) (refused_for NoEnvelope 0)
+-- "four numbers that are no taken, normal envelope", then "pattern longer than 4,096", both at 0; else a
+abbrev pub admitted : {A : Type 0} → Envelope → List ℕ → Result A Refusal → Result A Refusal
+admitted e p a =
+    cond (is_taken e)
+    (cond (nat_lt longest (length p)) (refused_for LongPattern 0) a)
+    (refused_for NoEnvelope 0)
 
 -- 12 to 15, or the offset past the end
-unfoldable pub judged : Envelope → List ℕ → Result ℤ Refusal
-judged e p =
-    cond (is_taken e)
-    (cond (nat_lt longest (length p)) (refused_for LongPattern 0)
-    (cond (nat_lt (plain p) (length p)) (refused_for NotABit (plain p))
-    (scanned e 0 (pos 0) p)))
-    (refused_for NoEnvelope 0)
+unfoldable pub end_offset : Envelope → List ℕ → Result ℤ Refusal
+end_offset e p = admitted e p (cond (nat_lt (plain p) (length p)) (refused_for NotABit (plain p)) (scanned e 0 (pos 0) p))

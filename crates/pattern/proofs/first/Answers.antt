@@ -1,7 +1,7 @@
 -- `pattern::first` meets its contract.
 -- Assumes nothing.
 use Rattle.std.proofs.Common.{pos, sym, ◌∙◌, arith}
-use Rattle.std.proofs.lemmas.Result.{err_from_is_err_and}
+use Rattle.reply.proofs.Refusals.{passed_on}
 use Rattle.judging.proofs.Admitted.{Admitted, is_admitted}
 use Rattle.judging.proofs.Offsets.{near_start, near_more}
 use Rattle.pattern.proofs.Answers.{first_bad, first_done}
@@ -9,13 +9,12 @@ use Rattle.pattern.proofs.first.Goals as goal
 use Rattle.pattern.proofs.first.Goals.{In_ok-admit}
 
 admitted_here : (c : In_ok-admit) → Admitted c.args.e c.args.pattern.now
-admitted_here c = is_admitted _ _ (sym c.in_ok-admit.was ∙ c.admit.ensures)
+admitted_here c = (is_admitted _ _ _ _ (sym c.in_ok-admit.was ∙ c.admit.ensures)).0
 
 pub returns-in_err-admit : goal.returns-in_err-admit
 returns-in_err-admit c =
-    let same = err_from_is_err_and c.from_residual.result c.from_residual.ensures.1 in
-    rw (same.1, same.2)
-    (first_bad _ c.args.pattern.now _ (sym c.in_err-admit.was ∙ c.admit.ensures))
+    rw (passed_on _ _ c.from_residual.ensures)
+    (first_bad _ c.args.pattern.now _ _ (sym c.in_err-admit.was ∙ c.admit.ensures))
 
 pub fill-requires : goal.fill-requires
 fill-requires c =

@@ -1,7 +1,6 @@
 -- `pattern::last_lift` meets its contract. The loop's invariant: d is the offset past the bits that are left, and the lift is that of those.
 -- Assumes nothing.
-use Rattle.std.proofs.Common.{◌≡◌, ◌++◌, ◌∷◌, [], sym, ap, ◌∙◌, rules, arith, ℤ, length, pos, w64, to_z, of_z, to_z-of_z, length-append}
-use Rattle.std.proofs.lemmas.List.{nil_from_length}
+use Rattle.std.proofs.Common.{◌≡◌, ◌++◌, ◌∷◌, [], sym, ap, ◌∙◌, arith, ℤ, length, pos, w64, to_z, of_z, length-append}
 use Rattle.whole.proofs.Machine.{told}
 use Rattle.judging.specs.Bytes.{longest}
 use Rattle.judging.specs.Inner.Scan.{offset_after}
@@ -20,11 +19,6 @@ went_back c = ap (λ (z : ℤ). offset_after c.args.e z c.in-Some.field-0-1.now)
 
 at_b : (c : In-Some) → to_z w64 c.loop-i.d-bits ≡ reached c.args.e (pos 0) (c.next.new.self.iter.iter.rest.now ++ (c.in-Some.field-0-1.now ∷ []))
 at_b c = c.loop-i.invariant.3 ∙ ap (reached c.args.e (pos 0)) (parts c)
-
-pub loop-i-init : goal.loop-i-init
-loop-i-init c =
-    let same : c.into_iter-i-iterator.result.iter.iter.rest.now ≡ c.args.pattern.now = search rules in
-    (search rules, rw same (omega arith), rw same c.requires.taken.2, rw same (to_z-of_z c.ranges.end ∙ c.requires.end_value), ap (lift_of c.args.e) (sym same))
 
 pub moved_back-d-requires : goal.moved_back-d-requires
 moved_back-d-requires c =
@@ -45,11 +39,6 @@ returns-then-one_at-clause-lift c =
     ∙ ap (lift_of c.args.e) (parts at.In-Some)
     ∙ lift_found c.args.e _ _ _ _ (at_b at.In-Some) (went_back at.After-moved_back-d) c.if-b-eq0.true (sym c.one_at.ensures ∙ c.if-one_at.true)))
 
-pub returns-then-one_at-clause-within : goal.returns-then-one_at-clause-within
-returns-then-one_at-clause-within c =
-    let before = c.next.new.self.iter.iter.rest.now in
-    omega (arith, c.loop-i.invariant.0, c.in-Some.ensures.steps.1.1, ap length (parts (goal.at.returns-then-one_at-clause-within c).In-Some), length-append before (c.in-Some.field-0-1.now ∷ []), c.loop-i.invariant.1)
-
 pub loop-i-preserved : goal.loop-i-preserved
 loop-i-preserved c =
     let at = goal.at.loop-i-preserved c in
@@ -65,8 +54,3 @@ loop-i-preserved c =
           ∙ lift_stays c.args.e before b _ _ (at_b at.In-Some) (went_back at.After-moved_back-d)
           (λ q. elim c.else-b-eq0.branch [ else-b-eq0-via-then-b-eq0+else-one_at w ↦ sym w.one_at.ensures ∙ w.if-one_at.false | else-b-eq0-via-else-b-eq0 w ↦ absurd (w.if-b-eq0.false q) ]),
     )
-
-pub returns-clause-lift : goal.returns-clause-lift
-returns-clause-lift c =
-    let none : c.loop-i.i-iterator.iter.iter.rest.now ≡ [] = nil_from_length _ c.in-None.ensures.steps.1.0 in
-    sym (c.loop-i.invariant.4 ∙ ap (lift_of c.args.e) none)

@@ -1,22 +1,15 @@
 -- `pattern::next` meets its contract.
 -- Assumes nothing.
 use Rattle.std.proofs.Common.{◌≡◌, ◌∷◌, ◌++◌, sym, ◌∙◌, ap, arith, Ok, ℕ, List, take}
-use Rattle.std.proofs.lemmas.Result.{err_from_is_err_and}
-use Rattle.judging.specs.Inner.Scan.{judged}
+use Rattle.judging.specs.Inner.Scan.{end_offset}
 use Rattle.pattern.specs.Inner.Lifts.{filled}
-use Rattle.pattern.proofs.Answers.{next_bad, next_last, next_done, short, taken, all_bits, end_held, near_held_lift, near_after}
+use Rattle.pattern.proofs.Answers.{next_last, next_done, short, taken, all_bits, end_held, near_held_lift, near_after}
 use Rattle.pattern.proofs.Loops.{raised, left_behind}
 use Rattle.pattern.proofs.next.Goals as goal
 use Rattle.pattern.proofs.next.Goals.{In_ok-end}
 
-sound : (c : In_ok-end) → Ok c.in_ok-end.end ≡ judged c.args.e c.args.pattern.now
+sound : (c : In_ok-end) → Ok c.in_ok-end.end ≡ end_offset c.args.e c.args.pattern.now
 sound c = sym c.in_ok-end.was ∙ c.judge.ensures
-
-pub returns-in_err-end : goal.returns-in_err-end
-returns-in_err-end c =
-    let same = err_from_is_err_and c.from_residual.result c.from_residual.ensures.1 in
-    rw (same.1, same.2)
-    (next_bad _ c.args.pattern.now _ (sym c.in_err-end.was ∙ c.judge.ensures))
 
 pub last_lift-requires-clause-taken : goal.last_lift-requires-clause-taken
 last_lift-requires-clause-taken c =

@@ -1,7 +1,7 @@
 -- `clock_rows` meets its contract: the clocks so far are in the tables, and the others stand at the cursor.
 -- Assumes nothing.
 use Rattle.std.proofs.Common.{◌≡◌, Ok, refl, sym, arith}
-use Rattle.word.proofs.Refusals.{read_passed_on}
+use Rattle.field.proofs.Read.{read_passed_on}
 use Rattle.reading.proofs.Sections.ClockTable.{kept_none, kept_more, kept_refused, kept_all, clocks_refused}
 use Rattle.reading.proofs.clock_rows.Goals as goal
 

@@ -1,7 +1,7 @@
 -- `read_clocks` meets its contract: the count was within its limit. Assumes nothing.
 use Rattle.std.proofs.Common.{refl, sym, arith}
 use Rattle.field.proofs.Fields.{there}
-use Rattle.word.proofs.Refusals.{read_passed_on}
+use Rattle.field.proofs.Read.{read_passed_on}
 use Rattle.reading.proofs.Sections.ClockTable.{section_refused, section_left}
 use Rattle.reading.proofs.read_clocks.Goals as goal
 

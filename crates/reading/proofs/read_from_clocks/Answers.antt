@@ -1,5 +1,5 @@
 -- `read_from_clocks` meets its contract. Assumes nothing.
-use Rattle.word.proofs.Refusals.{passed_on}
+use Rattle.reply.proofs.Refusals.{passed_on}
 use Rattle.reading.proofs.Sections.Stages.{clocks_refused, clocks_then}
 use Rattle.reading.proofs.read_from_clocks.Goals as goal
 

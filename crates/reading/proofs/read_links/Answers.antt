@@ -5,7 +5,7 @@ use Rattle.field.proofs.Fields.{there}
 use Rattle.sheet.specs.Sheet.{links_most}
 use Rattle.sheet.specs.Reader.{link_at}
 use Rattle.reading.specs.Inner.Sections.{ends_of}
-use Rattle.word.proofs.Refusals.{read_passed_on}
+use Rattle.field.proofs.Read.{read_passed_on}
 use Rattle.reading.proofs.Sections.Readings.{section_none, section_rows, reached_refused}
 use Rattle.reading.proofs.Sections.RowTables.{stored_none, stored_more, reached_left, left_none}
 use Rattle.reading.proofs.Sections.LinkTable.{link_anywhere}

@@ -1,5 +1,5 @@
 -- `read_to_end` meets its contract. Assumes nothing.
-use Rattle.word.proofs.Refusals.{passed_on}
+use Rattle.reply.proofs.Refusals.{passed_on}
 use Rattle.reading.proofs.Sections.Stages.{links_refused, links_past, links_got}
 use Rattle.reading.proofs.read_to_end.Goals as goal
 

@@ -4,7 +4,7 @@ use Rattle.std.proofs.Common.{◌≡◌, Ok, refl, sym, ap, arith}
 use lib.ListN.{set}
 use Rattle.field.proofs.Fields.{there}
 use Rattle.envelope.specs.declared.Node.{Node}
-use Rattle.word.proofs.Refusals.{read_passed_on}
+use Rattle.field.proofs.Read.{read_passed_on}
 use Rattle.reading.proofs.Sections.RowTables.{stored_none}
 use Rattle.reading.proofs.Sections.WordTable.{node_taken, words_more, words_stop, words_none, words_refused, words_got}
 use Rattle.reading.proofs.read_words.Goals as goal

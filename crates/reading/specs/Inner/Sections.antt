@@ -5,7 +5,7 @@ use Rattle.field.specs.Read.{Read, Read.got, Read.refused, bind, mapped}
 use Rattle.field.specs.Field.{field_in, read_of}
 use Rattle.field.specs.declared.Cursor.{Cursor}
 use Rattle.reply.specs.declared.Refusal.{Refusal}
-use Rattle.reply.specs.Refusal.{refusal}
+use Rattle.reply.specs.Inner.Causes.{refusal}
 use Rattle.envelope.specs.declared.Node.{Node}
 use Rattle.expression.specs.Expression.{Word, Clock, depth_most, spell_word}
 use Rattle.expression.specs.Evaluate.{word_node, word_nodes}

@@ -1,0 +1,2 @@
+-- Definitions that only contracts and proofs use: no demand rests on them.
+pub mod Causes
