@@ -18,7 +18,7 @@ fn locate(s: &[u8], first: usize, i: usize) -> usize
     ensures { (v : Sheet) → HasClocks s.now first i v → result ≡ clock_place v i }
 {
     let mut at = first;
-    for _j in 0..i {
+    for _ in 0..i {
         at = expression::past(s, at + 1);
     }
     at
@@ -31,10 +31,7 @@ pub fn find(s: &[u8], i: usize) -> Read<usize>
     let mut tables = Tables::empty();
     let found = read(s, &mut tables)?;
     if found.clocks <= i {
-        return Err(Refusal {
-            cause: Cause::NoClock,
-            place: 0,
-        });
+        return Err(Refusal::at(Cause::NoClock, 0));
     }
     let at = locate(s, found.clockrows, i);
     let end = expression::past(s, at + 1);

@@ -42,7 +42,7 @@ fn read_words(start: Cursor, s: &[u8], table: &mut [Entry; 64]) -> Read<usize>
     Ok((n, c))
 }
 
-// A clock's state and node.
+// A clock's state and node. A state is a byte of the sheet and a number of the result slices, so it stays a number.
 #[derive(Clone, Copy)]
 pub struct Mark {
     pub state: u8,
@@ -192,10 +192,7 @@ pub fn read(s: &[u8], tables: &mut Tables) -> Result<Found, Refusal>
     ensures tables { Tabled (read_sheet s.now) tables.new.nodes tables.new.states tables.new.ends }
 {
     if BYTES_MOST < s.len() {
-        return Err(Refusal {
-            cause: Cause::Beyond,
-            place: BYTES_MOST,
-        });
+        return Err(Refusal::at(Cause::Beyond, BYTES_MOST));
     }
     let mut list = [Entry::full(); 64];
     let (w, c) = read_words(Cursor { at: 0 }, s, &mut list)?;

@@ -12,10 +12,7 @@ pub fn close(sheet: &mut [u8], clock: usize) -> Result<usize, Refusal>
 {
     let (at, _) = finding::find(sheet, clock)?;
     if sheet[at] == 1 {
-        return Err(Refusal {
-            cause: Cause::AlreadyClosed,
-            place: 0,
-        });
+        return Err(Refusal::at(Cause::AlreadyClosed, 0));
     }
     sheet[at] = 1;
     Ok(at)

@@ -19,6 +19,7 @@ use sizing::{Rooms, Rows};
 // No listing is longer.
 pub const TEXT_MOST: usize = 18_463;
 
+// A state is a number, here and below: so it stands in the sheet and in the tables.
 fn put_state(out: &mut Writer<'_>, state: u8)
     ensures { Leaves out.old out.new (put_field (out_in out.old) (state_word state)) }
 {
@@ -87,7 +88,7 @@ fn put_clocks(out: &mut Writer<'_>, rows: &Rows)
     }
 }
 
-// The links' lines, and both rooms.
+// The links' lines, and both rooms. They are summed up here and not by a loop of their own, which would judge each link twice.
 fn put_links(out: &mut Writer<'_>, rows: &Rows) -> Rooms
     ensures { LinksPut out.old (rows_in rows.now.nodes.now rows.now.states.now rows.now.ends.now) out.new result }
 {
@@ -138,10 +139,7 @@ fn list_rows(rows: &Rows, text: &mut [u8]) -> Result<usize, Refusal>
     if enough(rows, text.len()) {
         return Ok(put_sheet(text, rows));
     }
-    Err(Refusal {
-        cause: Cause::ShortResult,
-        place: 0,
-    })
+    Err(Refusal::at(Cause::ShortResult, 0))
 }
 
 // The listing of any bytes, and its length; or their refusal. A buffer that is too short is refused too. Only where the text fits is anything written.

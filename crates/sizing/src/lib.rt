@@ -96,10 +96,7 @@ impl<'a> Rows<'a> {
         let m = self.nodes.len();
         let n = self.ends.len();
         if clocks.len() < PER_CLOCK * m || links.len() < PER_LINK * n {
-            return Err(Refusal {
-                cause: Cause::ShortResult,
-                place: 0,
-            });
+            return Err(Refusal::at(Cause::ShortResult, 0));
         }
         self.fill_clocks(clocks);
         let rooms = self.fill_links(links);
@@ -166,7 +163,7 @@ impl Rooms {
 }
 
 // What a sheet comes to: both counts and both rooms.
-#[derive(Clone, Copy, Debug, PartialEq, Eq)]
+#[derive(Clone, Copy, Debug, Default, PartialEq, Eq)]
 pub struct Totals {
     pub clocks: usize,
     pub links: usize,

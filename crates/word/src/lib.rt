@@ -12,7 +12,7 @@ ghost use Rattle.word.specs.Inner.Bits.{word_bits};
 
 use envelope::{Envelope, Node};
 use field::{Cursor, Read};
-use reply::Cause;
+use reply::{Cause, Refusal};
 
 // The longest prefix and the longest period.
 pub const BITS_MOST: usize = 64;
@@ -89,8 +89,7 @@ fn bits(start: Cursor, s: &[u8], n: usize) -> Read<usize>
     let mut ones: usize = 0;
     for (i, &b) in rest[..there].iter().enumerate() {
         if 1 < b {
-            let at = start.at + i;
-            return Err(Cursor { at }.refusal(Cause::Unknown));
+            return Err(Refusal::at(Cause::Unknown, start.at + i));
         }
         ones += b as usize;
     }

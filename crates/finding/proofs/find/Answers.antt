@@ -1,7 +1,7 @@
 -- `find` meets its contract. Assumes nothing.
 use mathlib.Core.Path.{◌≡◌, sym}
 use native.Mathlib.Omega.{arith}
-use Rattle.std.proofs.lemmas.Result.{err_from_is_err_and}
+use Rattle.reply.proofs.Refusals.{passed_on}
 use Rattle.field.proofs.Spelling.{end}
 use Rattle.sheet.specs.Locating.{clock_place}
 use Rattle.finding.proofs.Finds.{Chosen, find_refused, find_absent, find_chosen, before_it, behind_state, find_there}
@@ -16,11 +16,10 @@ begins : (c : After-locate-at) → c.locate-at.result ≡ clock_place (chosen c)
 begins c = c.locate-at.ensures (chosen c).opened.sheet (before_it (chosen c))
 
 pub returns-in_err-found : goal.returns-in_err-found
-returns-in_err-found c = let p = err_from_is_err_and c.from_residual.result c.from_residual.ensures.1 in
-    rw (p.1, p.2) (find_refused c.args.s.now _ (sym c.in_err-found.ensures.found) c.args.i)
+returns-in_err-found c = rw (passed_on _ _ c.from_residual.ensures) (find_refused c.args.s.now _ (sym c.in_err-found.ensures.found) c.args.i)
 
 pub returns-then-found-i : goal.returns-then-found-i
-returns-then-found-i c = find_absent c.args.s.now (λ j. (c.type_inv.s j).fits) c.in_ok-found.found (sym c.in_ok-found.ensures.found) c.args.i c.if-found-i.true
+returns-then-found-i c = rw c.at.ensures (find_absent c.args.s.now (λ j. (c.type_inv.s j).fits) c.in_ok-found.found (sym c.in_ok-found.ensures.found) c.args.i c.if-found-i.true)
 
 pub locate-at-requires : goal.locate-at-requires
 locate-at-requires c = (_, before_it (find_chosen c.args.s.now (λ j. (c.type_inv.s j).fits) c.in_ok-found.found (sym c.in_ok-found.ensures.found) c.args.i c.if-found-i.false))

@@ -12,7 +12,7 @@ few c = few_words _ c.if-s-gt-BYTES_MOST.false _ _ c.read_words.ensures _ _ c.in
 pub returns-then-s-gt-BYTES_MOST : goal.returns-then-s-gt-BYTES_MOST
 returns-then-s-gt-BYTES_MOST c =
     let a = too_long _ c.args.tables.now.nodes c.args.tables.now.states c.args.tables.now.ends c.if-s-gt-BYTES_MOST.true in
-    record { found = a.0; tables = a.1 }
+    record { found = rw c.at.ensures a.0; tables = a.1 }
 
 pub returns-in_err-w : goal.returns-in_err-w
 returns-in_err-w c =

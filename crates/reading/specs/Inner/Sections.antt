@@ -29,8 +29,7 @@ WordRows s a r t = Left word_node (section_at (λ xs a. word_at s a) words_most 
 
 -- ---- clocks
 
--- a clock as the code keeps it
-
+-- a clock as the code keeps it: its state, and of its expression the node
 unfoldable pub marked_at : List ℕ → List Node → List Node → ℕ → Read Mark
 marked_at s ws cs a =
     bind (field_in 1 0 2 unknown s a) λ state c.

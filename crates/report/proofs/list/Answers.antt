@@ -1,6 +1,6 @@
 -- `list` meets its contract: the sheet is read, and then its listing, or its refusal, is written. Assumes nothing.
 use mathlib.Core.Path.{sym, ◌∙◌}
-use Rattle.std.proofs.lemmas.Result.{err_from_is_err_and}
+use Rattle.reply.proofs.Refusals.{passed_on}
 use Rattle.sizing.specs.Inner.Rows.{FoundIn}
 use Rattle.report.proofs.Texts.{listed_refused, text_most, listed_good}
 use Rattle.report.proofs.list.Goals.{In_ok-found}
@@ -20,5 +20,4 @@ returns c = let f = found (goal.at.returns c).In_ok-found in
     listed_good _ f _ _ _ (c.of.ensures _ f) _ _ _ c.list_rows.ensures.listed c.list_rows.ensures.text
 
 pub returns-in_err-found : goal.returns-in_err-found
-returns-in_err-found c = let p = err_from_is_err_and c.from_residual.result c.from_residual.ensures.1 in
-    rw (p.1, p.2) (listed_refused _ _ _ (sym c.read.ensures.found ∙ c.in_err-found.was))
+returns-in_err-found c = rw (passed_on _ _ c.from_residual.ensures) (listed_refused _ _ _ (sym c.read.ensures.found ∙ c.in_err-found.was))

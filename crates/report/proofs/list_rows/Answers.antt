@@ -11,4 +11,4 @@ returns-then-enough c =
     record { listed = a.0; text = a.1 }
 
 pub returns : goal.returns
-returns c = let a = text_short (whole_text _ _ _) c.args.text.now (sym c.enough.ensures ∙ c.if-enough.false) in record { listed = a.0; text = a.1 }
+returns c = let a = text_short (whole_text _ _ _) c.args.text.now (sym c.enough.ensures ∙ c.if-enough.false) in record { listed = rw c.at.ensures a.0; text = a.1 }

@@ -1,13 +1,12 @@
 -- `work_out` meets its contract: what was read decides, and what is given of the tables. Assumes nothing.
 use mathlib.Core.Path.{sym}
-use Rattle.std.proofs.lemmas.Result.{err_from_is_err_and}
+use Rattle.reply.proofs.Refusals.{passed_on}
 use Rattle.sizing.specs.Inner.Rows.{FoundIn}
 use Rattle.sizing.proofs.Outcome.{out_refused, found_given}
 use Rattle.sizing.proofs.work_out.Goals as goal
 
 pub returns-in_err-found : goal.returns-in_err-found
-returns-in_err-found c = let p = err_from_is_err_and c.from_residual.result c.from_residual.ensures.1 in
-    rw (p.1, p.2) (out_refused _ _ _ _ (sym c.in_err-found.ensures.found))
+returns-in_err-found c = rw (passed_on _ _ c.from_residual.ensures) (out_refused _ _ _ _ (sym c.in_err-found.ensures.found))
 
 pub of-requires : goal.of-requires
 of-requires c = (c.args.sheet.now, record { bytes = λ j. (c.type_inv.sheet j).fits; told = sym c.in_ok-found.ensures.found; tabled = c.in_ok-found.ensures.tables })

@@ -24,7 +24,7 @@ returns-then-b-gt1-clause-read c =
     let bit = lent_bit c.args.s.now c.args.start.at c.min-there.result c.loop-i.i inside.0 inside.1 in
     let more = count_refused (c.args.n - c.loop-i.i) c.args.s.now c.loop-i.ones (c.args.start.at + c.loop-i.i) _ _ (omega (arith, room))
     (bit_unknown c.args.s.now (c.args.start.at + c.loop-i.i) _ there (sym bit) (omega arith)) in
-    rw c.refusal.ensures (sym (count_start _ _ _ ∙ c.loop-i.invariant.so_far ∙ more))
+    rw c.at.ensures (sym (count_start _ _ _ ∙ c.loop-i.invariant.so_far ∙ more))
 
 pub loop-i-preserved : goal.loop-i-preserved
 loop-i-preserved c =
@@ -46,7 +46,7 @@ returns-then-there-n-clause-read c =
     let short : length c.args.s.now ≤ c.args.start.at + c.min-there.result = omega (arith, there) in
     let more = count_refused (c.args.n - c.min-there.result) c.args.s.now c.loop-i.ones (c.args.start.at + c.min-there.result) _ _ (omega arith) (bit_missing c.args.s.now _ short) in
     let so_far = rw all at c.loop-i.invariant.so_far in
-    rw c.refusal-then-there-n.ensures (sym (count_start _ _ _ ∙ so_far ∙ more))
+    rw c.refusal.ensures (sym (count_start _ _ _ ∙ so_far ∙ more))
 
 pub returns : goal.returns
 returns c =

@@ -1,5 +1,6 @@
 -- `Rows::give` meets its contract: nothing is written before the room is there. Assumes nothing.
-use mathlib.Core.Path.{refl}
+use mathlib.Core.Path.{ap}
+use Rattle.std.specs.Prelude.{Err}
 use mathlib.Core.Logic.{inl, inr}
 use Rattle.sizing.proofs.Outcome.{short, given_all}
 use Rattle.sizing.proofs.Rows.give.Goals as goal
@@ -12,7 +13,7 @@ returns-then-clocks-m c =
       | then-clocks-m-via-then-clocks-m w ↦ inl w.if-clocks-m.true
       | then-clocks-m-via-else-clocks-m+then-links-n w ↦ inr (w.if-clocks-m.false, w.if-links-n.true)
     ])
-    refl
+    (ap Err c.at.ensures)
 
 pub returns : goal.returns
 returns c =
