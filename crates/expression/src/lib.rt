@@ -80,7 +80,7 @@ impl Tag {
     }
 }
 
-// What a rule made, with the cursor past the node, or its refusal at the node's tag.
+// What a rule made, with the cursor past the node, or its refusal at the node's tag. By a match, since both sides change.
 fn place(made: Made, c: Cursor, tag: Cursor) -> Read<Entry>
     requires { IfOk made (λ x. Taken x.envelope) }
     ensures { read_of result ≡ placed (worth_of made) c.at tag.at }
