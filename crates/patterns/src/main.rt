@@ -1,12 +1,13 @@
 // Prints the patterns of an envelope, one to a line, from the first on: patterns k K l n LENGTH [COUNT]
 #![tactic(auto)]
 
-ghost use Rattle.std.specs.Prelude.{IsTrue, ◌+◌, ◌≤◌, length};
+ghost use Rattle.std.specs.Prelude.{OnOk, ◌+◌, ◌≤◌, length};
 
 use envelope::Envelope;
 use line::Writer;
 use pattern::Answer;
-use terminal::Streams;
+use std::process::ExitCode;
+use terminal::{Failure, Streams, exit_code, is_given};
 
 // One more than a pattern's most bits: any longer pattern is refused as this one is.
 const TOO_LONG: usize = 4_097;
@@ -29,101 +30,85 @@ impl<'a> Lines<'a> {
         }
     }
 
-    fn print(&self) -> bool {
+    fn print(&self) -> Result<(), Failure> {
         self.to.print(&self.text[..self.at])
     }
 
-    // Prints the lines where there is no room for `need` bytes more. False: they could not be written.
-    fn make_room(&mut self, need: usize) -> bool
+    // Prints the lines where there is no room for `need` bytes more.
+    fn make_room(&mut self, need: usize) -> Result<(), Failure>
         requires { need ≤ 65536 }
-        ensures { IsTrue result → self.new.at + need ≤ 65536 }
+        ensures { OnOk result (self.new.at + need ≤ 65536) }
     {
-        if need <= self.text.len() - self.at {
-            return true;
+        if need > self.text.len() - self.at {
+            self.print()?;
+            self.at = 0;
         }
-        if !self.print() {
-            return false;
-        }
-        self.at = 0;
-        true
+        Ok(())
     }
 
     // Adds a pattern's line.
-    fn put(&mut self, bits: &[u8]) -> bool
+    fn put(&mut self, bits: &[u8]) -> Result<(), Failure>
         requires { length bits.now + 1 ≤ 65536 }
     {
-        if !self.make_room(bits.len() + 1) {
-            return false;
-        }
+        self.make_room(bits.len() + 1)?;
         let mut out = Writer {
             bytes: &mut self.text,
             at: self.at,
         };
         dump::put_bits(&mut out, bits);
         self.at = out.at;
-        true
+        Ok(())
     }
 }
 
 // Prints `count` patterns from this one on. Where there are fewer, the lines are written, and then why.
-fn walk(to: Streams<'_>, e: Envelope, count: u64, bits: &mut [u8])
+fn walk(to: Streams<'_>, e: Envelope, count: u64, bits: &mut [u8]) -> Result<(), Failure>
     requires { length bits.old ≤ 4097 }
 {
     let mut lines = Lines::of(to);
     for _ in 0..count {
-        if !lines.put(bits) {
-            return;
-        }
+        lines.put(bits)?;
         match pattern::next(e, bits) {
             Ok(Answer::Done) => {}
             Ok(_) => {
-                if lines.print() {
-                    to.print(b"last\n");
-                }
-                return;
+                lines.print()?;
+                return to.print(b"last\n");
             }
             Err(refusal) => {
-                if lines.print() {
-                    to.print_refused(refusal);
-                }
-                return;
+                lines.print()?;
+                return Err(to.refuse(None, refusal));
             }
         }
     }
-    lines.print();
+    lines.print()
 }
 
 // Prints from the first pattern on, which takes its place in the slice.
-fn start(to: Streams<'_>, e: Envelope, count: u64, bits: &mut [u8])
+fn start(to: Streams<'_>, e: Envelope, count: u64, bits: &mut [u8]) -> Result<(), Failure>
     requires { length bits.old ≤ 4097 }
 {
     match pattern::first(e, bits) {
         Ok(_) => walk(to, e, count, bits),
-        Err(refusal) => {
-            to.print_refused(refusal);
-        }
+        Err(refusal) => Err(to.refuse(None, refusal)),
     }
 }
 
-fn print_patterns(to: Streams<'_>, e: Envelope, length: u64, count: u64) {
+fn print_patterns(to: Streams<'_>, e: Envelope, length: u64, count: u64) -> Result<(), Failure> {
     let mut bits = [0u8; TOO_LONG];
     let m = length.min(TOO_LONG as u64) as usize;
-    start(to, e, count, &mut bits[..m]);
+    start(to, e, count, &mut bits[..m])
 }
 
 // The last argument, or more patterns than any run prints.
-fn count_argument(rt: &HostRuntime, to: Streams<'_>) -> Option<u64> {
-    if terminal::is_given(rt, 6) {
+fn count_argument(rt: &HostRuntime, to: Streams<'_>) -> Result<u64, Failure> {
+    if is_given(rt, 6) {
         return to.natural_argument(rt, b"COUNT", 6);
     }
-    Some(u64::MAX)
+    Ok(u64::MAX)
 }
 
-// None: there was a complaint.
-fn run(rt: &HostRuntime, to: Streams<'_>) -> Option<()> {
-    if !to.has_arguments(rt, 5, 6, b"k K l n LENGTH [COUNT]") {
-        return None;
-    }
+fn run(rt: &HostRuntime, to: Streams<'_>) -> Result<(), Failure> {
+    to.count_arguments(rt, 5, 6, b"k K l n LENGTH [COUNT]")?;
     let e = Envelope {
         k: to.whole_argument(rt, b"k", 1)?,
         K: to.whole_argument(rt, b"K", 2)?,
@@ -132,11 +117,10 @@ fn run(rt: &HostRuntime, to: Streams<'_>) -> Option<()> {
     };
     let length = to.natural_argument(rt, b"LENGTH", 5)?;
     let count = count_argument(rt, to)?;
-    print_patterns(to, e, length, count);
-    Some(())
+    print_patterns(to, e, length, count)
 }
 
-fn main(rt: HostRuntime) {
+fn main(rt: HostRuntime) -> ExitCode {
     let to = Streams::of(&rt, b"patterns");
-    let _ = run(&rt, to);
+    exit_code(run(&rt, to))
 }
