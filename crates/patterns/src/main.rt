@@ -1,16 +1,17 @@
-// Prints the patterns of an envelope, one to a line, from the first on: patterns k K l n LENGTH [COUNT]
+// Prints the patterns of an envelope, one to a line, from the first on or from one that is given: patterns k K l n LENGTH [COUNT]
 #![tactic(auto)]
 
 ghost use Rattle.std.specs.Prelude.{OnOk, ◌+◌, ◌≤◌, length};
 
+use asking::{FIGURES, Naming, pattern_argument};
 use envelope::Envelope;
 use line::Writer;
 use pattern::Answer;
 use std::process::ExitCode;
-use terminal::{Failure, Streams, exit_code, is_given};
+use terminal::{Failure, Streams, exit_code, is_given, is_word};
 
-// One more than a pattern's most bits: any longer pattern is refused as this one is.
-const TOO_LONG: usize = 4_097;
+const USAGE: &[u8] =
+    b"k K l n LENGTH [COUNT] or FILE CLOCK LENGTH [COUNT], and from PATTERN in place of LENGTH to begin there";
 
 // Lines that wait to be printed. Their length stands beside the buffer since no heap is used.
 #[derive(Drop)]
@@ -63,7 +64,7 @@ impl<'a> Lines<'a> {
 
 // Prints `count` patterns from this one on. Where there are fewer, the lines are written, and then why.
 fn walk(to: Streams<'_>, e: Envelope, count: u64, bits: &mut [u8]) -> Result<(), Failure>
-    requires { length bits.old ≤ 4097 }
+    requires { length bits.old ≤ 4098 }
 {
     let mut lines = Lines::of(to);
     for _ in 0..count {
@@ -84,8 +85,8 @@ fn walk(to: Streams<'_>, e: Envelope, count: u64, bits: &mut [u8]) -> Result<(),
 }
 
 // Prints from the first pattern on, which takes its place in the slice.
-fn start(to: Streams<'_>, e: Envelope, count: u64, bits: &mut [u8]) -> Result<(), Failure>
-    requires { length bits.old ≤ 4097 }
+fn from_first(to: Streams<'_>, e: Envelope, count: u64, bits: &mut [u8]) -> Result<(), Failure>
+    requires { length bits.old ≤ 4098 }
 {
     match pattern::first(e, bits) {
         Ok(_) => walk(to, e, count, bits),
@@ -93,31 +94,63 @@ fn start(to: Streams<'_>, e: Envelope, count: u64, bits: &mut [u8]) -> Result<()
     }
 }
 
-fn print_patterns(to: Streams<'_>, e: Envelope, length: u64, count: u64) -> Result<(), Failure> {
-    let mut bits = [0u8; TOO_LONG];
-    let m = length.min(TOO_LONG as u64) as usize;
-    start(to, e, count, &mut bits[..m])
+// Prints from this pattern on, if it is inside.
+fn from_given(to: Streams<'_>, e: Envelope, count: u64, bits: &mut [u8]) -> Result<(), Failure>
+    requires { length bits.old ≤ 4098 }
+{
+    match pattern::check(e, bits) {
+        Ok(_) => walk(to, e, count, bits),
+        Err(refusal) => Err(to.refuse(None, refusal)),
+    }
 }
 
-// The last argument, or more patterns than any run prints.
-fn count_argument(rt: &HostRuntime, to: Streams<'_>) -> Result<u64, Failure> {
-    if is_given(rt, 6) {
-        return to.natural_argument(rt, b"COUNT", 6);
+// By LENGTH.
+fn print_first(
+    rt: &HostRuntime,
+    to: Streams<'_>,
+    naming: Naming,
+    count: u64,
+) -> Result<(), Failure> {
+    let length = to.natural_argument(rt, b"LENGTH", naming.next())?;
+    let e = naming.envelope(rt, to)?;
+    let mut bits = [0u8; FIGURES];
+    // A longer pattern is refused as one that fills the slice.
+    let m = length.min(FIGURES as u64) as usize;
+    from_first(to, e, count, &mut bits[..m])
+}
+
+// By `from PATTERN`.
+fn print_given(
+    rt: &HostRuntime,
+    to: Streams<'_>,
+    naming: Naming,
+    count: u64,
+) -> Result<(), Failure> {
+    let e = naming.envelope(rt, to)?;
+    let mut bits = [0u8; FIGURES];
+    let m = pattern_argument(rt, to, naming.next() + 1, &mut bits)?;
+    from_given(to, e, count, &mut bits[..m])
+}
+
+// COUNT, or more patterns than any run prints.
+fn count_argument(rt: &HostRuntime, to: Streams<'_>, place: usize) -> Result<u64, Failure> {
+    if is_given(rt, place) {
+        return to.natural_argument(rt, b"COUNT", place);
     }
     Ok(u64::MAX)
 }
 
 fn run(rt: &HostRuntime, to: Streams<'_>) -> Result<(), Failure> {
-    to.count_arguments(rt, 5, 6, b"k K l n LENGTH [COUNT]")?;
-    let e = Envelope {
-        k: to.whole_argument(rt, b"k", 1)?,
-        K: to.whole_argument(rt, b"K", 2)?,
-        l: to.natural_argument(rt, b"l", 3)?,
-        n: to.natural_argument(rt, b"n", 4)?,
-    };
-    let length = to.natural_argument(rt, b"LENGTH", 5)?;
-    let count = count_argument(rt, to)?;
-    print_patterns(to, e, length, count)
+    let naming = Naming::of(rt);
+    let is_from = is_word(rt, naming.next(), b"from");
+    let last = naming.next() + if is_from { 1 } else { 0 };
+    to.count_arguments(rt, last, last + 1, USAGE)?;
+    let count = count_argument(rt, to, last + 1)?;
+    if is_from {
+        print_given(rt, to, naming, count)
+    } else {
+        print_first(rt, to, naming, count)
+    }
 }
 
 fn main(rt: HostRuntime) -> ExitCode {
