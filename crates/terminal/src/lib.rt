@@ -10,6 +10,6 @@ mod outcome;
 mod reason;
 
 pub use argument::{is_given, is_number, is_word, name_text};
-pub use complaint::Streams;
+pub use complaint::{Streams, written};
 pub use failure::{Failure, exit_code, worse};
 pub use input::{PATH, input_name, read_whole, sheet_space};
