@@ -59,12 +59,6 @@ pub fn pattern_argument(
     ensures { IfOk result (λ n. n ≤ length bits.new) }
 {
     let n = if is_word(rt, place, b"-") {
-        if is_word(rt, 1, b"-") {
-            return Err(to.complain(
-                b"FILE and PATTERN are both standard input",
-                b"`-` for one of them",
-            ));
-        }
         read_figures(rt, to, bits)?
     } else {
         // One that is longer than the slice is refused by its length, whatever its figures.

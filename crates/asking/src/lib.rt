@@ -6,5 +6,5 @@ mod figures;
 mod naming;
 
 pub use clock::clock_envelope;
-pub use figures::{FIGURES, pattern_argument};
+pub use figures::FIGURES;
 pub use naming::Naming;

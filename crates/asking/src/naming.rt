@@ -1,7 +1,8 @@
 // How an envelope is named on the command line.
-ghost use Rattle.std.specs.Prelude.{◌≤◌};
+ghost use Rattle.std.specs.Prelude.{◌≤◌, IfOk, length};
 
 use crate::clock::clock_envelope;
+use crate::figures::pattern_argument;
 use envelope::Envelope;
 use std::rt::Env;
 use terminal::{Failure, PATH, Streams, input_name, is_given, is_number, is_word, sheet_space};
@@ -58,5 +59,25 @@ impl Naming {
             Naming::Numbers => numbers(rt, to),
             Naming::Clock => of_clock(rt, to),
         }
+    }
+    // The envelope, and how many bits PATTERN has, which stands in that place: they are put at the start of the slice.
+    pub fn with_pattern(
+        self,
+        rt: &HostRuntime,
+        to: Streams<'_>,
+        place: usize,
+        bits: &mut [u8],
+    ) -> Result<(Envelope, usize), Failure>
+        ensures { IfOk result (λ read. read.1 ≤ length bits.new) }
+    {
+        if is_word(rt, 1, b"-") && is_word(rt, place, b"-") {
+            return Err(to.complain(
+                b"FILE and PATTERN are both standard input",
+                b"`-` for one of them",
+            ));
+        }
+        let e = self.envelope(rt, to)?;
+        let n = pattern_argument(rt, to, place, bits)?;
+        Ok((e, n))
     }
 }

@@ -1,7 +1,7 @@
 // Tells whether a pattern is inside an envelope: check k K l n PATTERN, or check FILE CLOCK PATTERN
 #![tactic(auto)]
 
-use asking::{FIGURES, Naming, pattern_argument};
+use asking::{FIGURES, Naming};
 use std::process::ExitCode;
 use terminal::{Failure, Streams, exit_code};
 
@@ -9,9 +9,8 @@ fn run(rt: &HostRuntime, to: Streams<'_>) -> Result<(), Failure> {
     let naming = Naming::of(rt);
     let place = naming.next();
     to.count_arguments(rt, place, place, b"k K l n PATTERN or FILE CLOCK PATTERN")?;
-    let e = naming.envelope(rt, to)?;
     let mut bits = [0u8; FIGURES];
-    let n = pattern_argument(rt, to, place, &mut bits)?;
+    let (e, n) = naming.with_pattern(rt, to, place, &mut bits)?;
     match pattern::check(e, &bits[..n]) {
         Ok(_) => to.print(b"inside\n"),
         Err(refusal) => Err(to.refuse(None, refusal)),

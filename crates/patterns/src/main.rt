@@ -3,7 +3,7 @@
 
 ghost use Rattle.std.specs.Prelude.{OnOk, ◌+◌, ◌≤◌, length};
 
-use asking::{FIGURES, Naming, pattern_argument};
+use asking::{FIGURES, Naming};
 use envelope::Envelope;
 use line::Writer;
 use pattern::Answer;
@@ -126,9 +126,8 @@ fn print_given(
     naming: Naming,
     count: u64,
 ) -> Result<(), Failure> {
-    let e = naming.envelope(rt, to)?;
     let mut bits = [0u8; FIGURES];
-    let m = pattern_argument(rt, to, naming.next() + 1, &mut bits)?;
+    let (e, m) = naming.with_pattern(rt, to, naming.next() + 1, &mut bits)?;
     from_given(to, e, count, &mut bits[..m])
 }
 
