@@ -60,6 +60,7 @@ impl Naming {
             Naming::Clock => of_clock(rt, to),
         }
     }
+
     // The envelope, and how many bits PATTERN has, which stands in that place: they are put at the start of the slice.
     pub fn with_pattern(
         self,
@@ -70,7 +71,7 @@ impl Naming {
     ) -> Result<(Envelope, usize), Failure>
         ensures { IfOk result (λ read. read.1 ≤ length bits.new) }
     {
-        if is_word(rt, 1, b"-") && is_word(rt, place, b"-") {
+        if self == Naming::Clock && is_word(rt, 1, b"-") && is_word(rt, place, b"-") {
             return Err(to.complain(
                 b"FILE and PATTERN are both standard input",
                 b"`-` for one of them",
