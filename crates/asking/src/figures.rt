@@ -1,6 +1,6 @@
 // A pattern in figures, as an argument or on standard input.
 ghost use Rattle.std.specs.Prelude.{◌≡◌, IfOk, ◌≤◌, length};
-ghost use Rattle.asking.specs.Figures.{bit_of, bits_of};
+ghost use Rattle.asking.specs.Figures.{bit_of, bits_of, line_of};
 
 use std::rt::Env;
 use terminal::{Failure, Streams, is_word, read_whole};
@@ -27,14 +27,11 @@ fn to_bits(text: &mut [u8])
     }
 }
 
-// How many bytes a text has before the line feed that may end it.
-fn line_len(text: &[u8]) -> usize
-    ensures { result ≤ length text.now }
+// A text without the line feed that may end it.
+fn line(text: &[u8]) -> &[u8]
+    ensures { result.now ≡ line_of text.now }
 {
-    match text.split_last() {
-        Some((b'\n', line)) => line.len(),
-        _ => text.len(),
-    }
+    text.strip_suffix(b"\n").unwrap_or(text)
 }
 
 // Reads a line's figures, and answers how many there are.
@@ -46,7 +43,7 @@ fn read_figures(rt: &HostRuntime, to: Streams<'_>, bits: &mut [u8]) -> Result<us
         b"could not be read; expected a pattern in figures 0 and 1",
         read_whole(&mut rt.stdin(), bits),
     )?;
-    Ok(line_len(&bits[..n]))
+    Ok(line(&bits[..n]).len())
 }
 
 // Puts the bits of PATTERN at the start of the slice, and answers how many there are. `-` stands for a line of standard input.

@@ -1,5 +1,6 @@
 // How an envelope is named on the command line.
-ghost use Rattle.std.specs.Prelude.{◌≤◌, IfOk, length};
+ghost use Rattle.std.specs.Prelude.{◌≡◌, ◌≤◌, IfOk, length};
+ghost use Rattle.asking.specs.Places.{next_of};
 
 use crate::clock::clock_envelope;
 use crate::figures::pattern_argument;
@@ -46,7 +47,7 @@ impl Naming {
 
     // The place of the argument behind it.
     pub fn next(self) -> usize
-        ensures { result ≤ 5 }
+        ensures { result ≡ next_of self }
     {
         match self {
             Naming::Numbers => 5,
