@@ -1,5 +1,8 @@
 // Complaints: one line on standard error that says what was wrong and what was expected.
 ghost use Rattle.std.specs.Prelude.{◌≡◌, MatchResult, Ok, Err};
+ghost use Rattle.line.specs.Text.{put};
+ghost use Rattle.line.specs.Writing.{out_in, Leaves};
+ghost use Rattle.terminal.specs.Shown.{shown_byte, shown_name};
 ghost use Rattle.terminal.specs.declared.failure.Failure.TheVariants.{Trouble};
 
 use crate::failure::Failure;
@@ -20,13 +23,19 @@ pub struct Streams<'a> {
 }
 
 // A byte of a name as it is shown: one that would end the line or steer the terminal is a question mark.
-fn shown(b: u8) -> u8 {
+fn shown(b: u8) -> u8
+    ensures { result ≡ shown_byte b }
+{
     if b.is_ascii_control() { b'?' } else { b }
 }
 
 // Puts a name; of one longer than any path, its beginning.
-pub fn put_name(out: &mut Writer<'_>, name: &[u8]) {
-    for b in name.iter().take(4096) {
+#[tactic(auto, using(crate::proofs::Names::shown_more, crate::proofs::Names::shown_done))]
+pub fn put_name(out: &mut Writer<'_>, name: &[u8])
+    ensures { Leaves out.old out.new (put (out_in out.old) (shown_name name.now)) }
+{
+    let start = &name[..name.len().min(4096)];
+    for b in start {
         out.put_byte(shown(*b));
     }
 }

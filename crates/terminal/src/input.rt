@@ -1,7 +1,8 @@
 // Whole inputs.
-ghost use Rattle.std.specs.Prelude.{◌≡◌, IfOk, length};
-ghost use Rattle.terminal.specs.Counts.{Counts};
+ghost use Rattle.std.specs.Prelude.{◌≡◌, ◌<◌, IfOk, length, take};
 ghost use Rattle.std.specs.Io.{ReadsAtMost};
+ghost use Rattle.std.specs.Io.KnownBytes.{Consumes, IsAtEnd, ReadConsumes};
+ghost use Rattle.terminal.specs.Counts.{Counts};
 
 use crate::complaint::Streams;
 use crate::failure::Failure;
@@ -20,7 +21,8 @@ pub fn sheet_space() -> [u8; 32769]
 
 // One read, tried again where a signal interrupts it. A proved loop has to end: this one has more turns than any run uses up.
 fn read_some<R: Read>(input: &mut R, bytes: &mut [u8]) -> io::Result<usize>
-    ensures { ReadsAtMost result bytes.new }
+    ensures bound { ReadsAtMost result bytes.new }
+    ensures bytes { ReadConsumes (R.remaining input.old) (R.remaining input.new) result bytes.new }
 {
     for _ in 0..u64::MAX {
         match input.read(bytes) {
@@ -28,12 +30,14 @@ fn read_some<R: Read>(input: &mut R, bytes: &mut [u8]) -> io::Result<usize>
             read => return read,
         }
     }
-    Err(io::Error::from(io::ErrorKind::Interrupted))
+    Err(io::Error::from(io::ErrorKind::TimedOut))
 }
 
-// Reads into the slice until it is full or the input ends, and answers how many bytes came.
+// Reads into the slice until it is full or the input ends, and answers how many bytes came: of an input whose bytes are known, just those.
 pub fn read_whole<R: Read>(input: &mut R, bytes: &mut [u8]) -> io::Result<usize>
-    ensures { ReadsAtMost result bytes.new }
+    ensures bound { ReadsAtMost result bytes.new }
+    ensures came { IfOk result (λ n. Consumes (R.remaining input.old) (R.remaining input.new) (take n bytes.new)) }
+    ensures all { IfOk result (λ n. n < length bytes.new → IsAtEnd (R.remaining input.new)) }
 {
     // `io::copy` into the slice would do, but says nothing of how many bytes came.
     let mut done: usize = 0;
