@@ -1,8 +1,9 @@
 /* Design sheets from C: work out envelopes and links, close and quote clocks, list a sheet, walk patterns.
  *
- * The library (libexport.a, made by `rt lib` in crates/export, x86-64 Linux) keeps no memory of its own: it has no
- * state, allocates nothing, and calls nothing but memcpy and memset. Every function returns, for any bytes and
- * any numbers; what it answers and what it writes is proved. Any number of threads may call it at once.
+ * The library (libexport.a, made by `rt lib` in crates/export, or libtxoribeltza.a where it was installed; x86-64
+ * Linux) keeps no memory of its own: it has no state, allocates nothing, and calls nothing but memcpy and memset.
+ * Every function returns, for any bytes and any numbers; what it answers and what it writes is proved. Any number of
+ * threads may call it at once.
  *
  * What nothing can check on C's side, and must hold at each call:
  *   - a pointer is not NULL, also where its length is 0, and points to as many elements as its length says,
@@ -90,9 +91,12 @@ enum {
     /* A call's most bytes of stack, whatever it is given, besides what memcpy and memset take. */
     TXORI_STACK_MOST = 8600,
 
-    /* Numbers per clock: k, K, l, n. */
+    /* Numbers per clock: k, K, l, n, the envelope of its rhythm. k is from -1,000,000,000 to 1,000,000,000, K from 0 to
+       1,000,000,000, l from 1 to 1,000,000 and n from 1 to l; l and n have no common factor, K - k >= n - 1, and k is
+       not below 0 at l = n = 1. */
     TXORI_PER_CLOCK = 4,
-    /* Numbers per link: verdict, size, state. */
+    /* Numbers per link: verdict, size, state. A size counts words between instants: a memory that cannot pass a word
+       through within one instant needs one word more. */
     TXORI_PER_LINK = 3,
 
     /* A link's verdict. */
@@ -154,7 +158,7 @@ TxoriWritten txori_quote(const uint8_t *sheet, size_t sheet_length, size_t clock
    Refusals: 1 to 10; then 11 where `text` is too short for the listing. */
 TxoriWritten txori_list(const uint8_t *sheet, size_t sheet_length, uint8_t *text, size_t text_length);
 
-/* ---- Patterns: bytes 0 and 1 in the envelope k, K, l, n */
+/* ---- Patterns: bytes 0 and 1 in the envelope k, K, l, n, which keeps to the limits said of TXORI_PER_CLOCK */
 
 /* TXORI_OK where the pattern lies inside the envelope. Refusals: 12 to 15. */
 TxoriReply txori_check(int64_t k, int64_t K, uint64_t l, uint64_t n, const uint8_t *pattern, size_t pattern_length);

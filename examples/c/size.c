@@ -1,5 +1,5 @@
-/* Works a sheet file out and prints its clocks, its links and its rooms: size SHEET
-   Built by: cc -Iinclude examples/c/size.c crates/export/out/libexport.a -o size */
+/* Works a sheet file out and prints its clocks, its links and its rooms: size-c SHEET
+   Built by: cc -Iinclude examples/c/size.c crates/export/out/libexport.a -o size-c */
 #include <inttypes.h>
 #include <stdio.h>
 
@@ -26,7 +26,7 @@ static void print_link(uint64_t i, const int64_t *l)
 int main(int count, char **words)
 {
     if (count != 2) {
-        fprintf(stderr, "size SHEET\n");
+        fprintf(stderr, "size-c SHEET\n");
         return 2;
     }
     FILE *file = fopen(words[1], "rb");

@@ -1,5 +1,5 @@
-//! Works a sheet file out and prints its clocks, its links and its rooms: size SHEET
-//! Built without cargo: rustc --edition 2021 examples/rust/main.rs -L crates/export/out -o size
+//! Works a sheet file out and prints its clocks, its links and its rooms: size-rust SHEET
+//! Built without cargo: rustc --edition 2021 examples/rust/main.rs -L crates/export/out -o size-rust
 
 use std::process::ExitCode;
 
@@ -68,7 +68,7 @@ fn main() -> ExitCode {
     let path = match std::env::args_os().nth(1) {
         Some(path) => path,
         None => {
-            eprintln!("size SHEET");
+            eprintln!("size-rust SHEET");
             return ExitCode::from(2);
         }
     };

@@ -1,13 +1,14 @@
 // Reading a case: its bytes, its numbers, and what ends a run.
 ghost use Rattle.std.specs.Prelude.{◌≡◌, ◌≤◌, ◌<◌, length, MatchResult};
+ghost use Rattle.batch.specs.Ops.{OpOf};
 
-use std::io::Read;
+use std::io::{ErrorKind, Read};
 
 // Why no case follows: this one is malformed, or its answer could not be written.
 #[derive(Clone, Copy, Debug, PartialEq, Eq)]
 pub enum Stop {
     Malformed,
-    Ended,
+    Unwritten,
 }
 
 pub type Turn = Result<(), Stop>;
@@ -33,6 +34,8 @@ pub enum Op {
 impl TryFrom<u8> for Op {
     type Error = Stop;
 
+    ghost try_from_gives = { OpOf };
+
     fn try_from(op: u8) -> Result<Op, Stop> {
         match op {
             1 => Ok(Op::WorkOut),
@@ -50,6 +53,16 @@ impl TryFrom<u8> for Op {
 // Fills the slice with the bytes that come next.
 pub fn read(rt: &HostRuntime, bytes: &mut [u8]) -> Turn {
     rt.stdin().read_exact(bytes).map_err(|_| Stop::Malformed)
+}
+
+// The first byte of the next case, where there is one more.
+pub fn next_op(rt: &HostRuntime) -> Result<Option<u8>, Stop> {
+    let mut op = [0u8; 1];
+    match rt.stdin().read_exact(&mut op) {
+        Ok(()) => Ok(Some(op[0])),
+        Err(why) if why.kind() == ErrorKind::UnexpectedEof => Ok(None),
+        Err(_) => Err(Stop::Malformed),
+    }
 }
 
 // The numbers before a case's bytes, as they came.

@@ -4,16 +4,19 @@
 mod answer;
 mod case;
 
-ghost use Rattle.std.specs.Prelude.{◌≡◌, ◌≤◌, ◌≤ℤ◌, pos, negsuc, length};
+ghost use Rattle.std.specs.Prelude.{◌≤◌, ◌≤ℤ◌, pos, negsuc, length};
 
-use answer::{put_all, put_outcome, put_reply};
-use case::{Ask, Op, Stop, Turn, head, limited, read};
+use answer::{put_all, put_number, put_outcome, put_reply};
+use case::{Ask, Op, Stop, Turn, head, limited, next_op, read};
 use envelope::Envelope;
-use field::{HALF_64, from_twos, low_first, put_low_first};
+use field::{HALF_64, from_twos, low_first};
+use line::Writer;
 use pattern::Answer;
 use reply::Refusal;
 use sizing::Totals;
 use std::io::Print;
+use std::process::ExitCode;
+use terminal::{Failure, Streams, exit_code, written};
 
 // The most bytes of a sheet or a pattern.
 const BODY: usize = 40_000;
@@ -45,7 +48,7 @@ const NOTHING: Totals = Totals {
 
 // Writes an answer; where that fails the run ends.
 fn send(rt: &HostRuntime, answer: &[u8]) -> Turn {
-    rt.stdout().write_all(answer).map_err(|_| Stop::Ended)
+    rt.stdout().write_all(answer).map_err(|_| Stop::Unwritten)
 }
 
 // What a lent slice holds before the call: number i is first - i.
@@ -57,16 +60,14 @@ fn lend(numbers: &mut [i64], first: i64)
     }
 }
 
-// Puts what `work_out` answers beside the lent numbers: 41 bytes.
-fn put_worked(out: &mut [u8], r: Result<Totals, Refusal>)
-    requires { 41 ≤ length out.old }
-{
+// Puts what `work_out` answers beside the lent numbers.
+fn put_worked(out: &mut Writer<'_>, r: Result<Totals, Refusal>) {
     put_outcome(out, r.map(|_| 0));
     let totals = r.unwrap_or(NOTHING);
-    put_low_first(out, 9, 8, totals.clocks as u64);
-    put_low_first(out, 17, 8, totals.links as u64);
-    put_low_first(out, 25, 8, totals.opened);
-    put_low_first(out, 33, 8, totals.whole);
+    put_number(out, totals.clocks as u64);
+    put_number(out, totals.links as u64);
+    put_number(out, totals.opened);
+    put_number(out, totals.whole);
 }
 
 fn worked_out(
@@ -75,13 +76,12 @@ fn worked_out(
     clocks: &mut [i64],
     links: &mut [i64],
     out: &mut [u8; ANSWER],
-) -> Turn
-    requires { (length clocks.old ≤ 1024) × (length links.old ≤ 1024) }
-{
-    put_worked(out, sizing::work_out(sheet, clocks, links));
-    let next = put_all(out, 41, clocks);
-    let end = put_all(out, next, links);
-    send(rt, &out[..end])
+) -> Turn {
+    let mut answer = Writer::new(out);
+    put_worked(&mut answer, sizing::work_out(sheet, clocks, links));
+    put_all(&mut answer, clocks);
+    put_all(&mut answer, links);
+    send(rt, written(&answer))
 }
 
 fn work_out(rt: &HostRuntime, body: &mut [u8; BODY], out: &mut [u8; ANSWER]) -> Turn {
@@ -104,14 +104,12 @@ fn close(rt: &HostRuntime, out: &mut [u8; ANSWER]) -> Turn {
     let end = REPLY + limited(low_first(&head, 8, 4), BODY)?;
     read(rt, &mut out[REPLY..end])?;
     let closed = register::close(&mut out[REPLY..end], clock);
-    put_outcome(out, closed);
+    put_outcome(&mut Writer::new(out), closed);
     send(rt, &out[..end])
 }
 
 // Number and place of quoting: only a refusal's part is empty, so no other has the sheet read twice.
-fn put_quoting(out: &mut [u8], sheet: &[u8], clock: usize, part: &[u8])
-    requires { 9 ≤ length out.old }
-{
+fn put_quoting(out: &mut Writer<'_>, sheet: &[u8], clock: usize, part: &[u8]) {
     let quoted = if part.is_empty() {
         register::quote_reply(sheet, clock)
     } else {
@@ -123,9 +121,10 @@ fn put_quoting(out: &mut [u8], sheet: &[u8], clock: usize, part: &[u8])
 // The part is written from where it stands. Apart from `quote`, since the check does not cover a part of what was lent to be read into.
 fn quoted(rt: &HostRuntime, sheet: &[u8], clock: usize, out: &mut [u8; ANSWER]) -> Turn {
     let part = register::quote(sheet, clock);
-    put_quoting(out, sheet, clock, part);
-    let end = put_low_first(out, REPLY, 4, part.len() as u64);
-    send(rt, &out[..end])?;
+    let mut answer = Writer::new(out);
+    put_quoting(&mut answer, sheet, clock, part);
+    answer.put_bytes(&(part.len() as u64).to_le_bytes()[..4]);
+    send(rt, written(&answer))?;
     send(rt, part)
 }
 
@@ -137,9 +136,7 @@ fn quote(rt: &HostRuntime, body: &mut [u8; BODY], out: &mut [u8; ANSWER]) -> Tur
     quoted(rt, &body[..n], clock, out)
 }
 
-fn put_answer(out: &mut [u8], answer: Result<Answer, Refusal>)
-    requires { 9 ≤ length out.old }
-{
+fn put_answer(out: &mut Writer<'_>, answer: Result<Answer, Refusal>) {
     match answer {
         Ok(Answer::Last) => put_reply(out, LAST, 0),
         _ => put_outcome(out, answer.map(|_| 0)),
@@ -158,12 +155,13 @@ fn pattern(rt: &HostRuntime, ask: Ask, out: &mut [u8; ANSWER]) -> Turn {
     let end = REPLY + limited(low_first(&head, 32, 4), BODY)?;
     read(rt, &mut out[REPLY..end])?;
     let bits = &mut out[REPLY..end];
+    // No trait or closure for the three: they are of one type, but for how they take the slice.
     let (answer, sent) = match ask {
         Ask::Check => (pattern::check(e, bits), REPLY),
         Ask::First => (pattern::first(e, bits), end),
         Ask::Next => (pattern::next(e, bits), end),
     };
-    put_answer(out, answer);
+    put_answer(&mut Writer::new(out), answer);
     send(rt, &out[..sent])
 }
 
@@ -174,11 +172,9 @@ fn lend_text(text: &mut [u8]) {
     }
 }
 
-fn put_listed(out: &mut [u8], listed: Result<usize, Refusal>)
-    requires { 17 ≤ length out.old }
-{
+fn put_listed(out: &mut Writer<'_>, listed: Result<usize, Refusal>) {
     put_outcome(out, listed.map(|_| 0));
-    put_low_first(out, REPLY, 8, listed.unwrap_or(0) as u64);
+    put_number(out, listed.unwrap_or(0) as u64);
 }
 
 // Lists a sheet into the bytes of the answer from the place of the text on.
@@ -189,7 +185,7 @@ fn list(rt: &HostRuntime, body: &mut [u8; BODY], out: &mut [u8; ANSWER]) -> Turn
     read(rt, &mut body[..n])?;
     lend_text(&mut out[LISTING..end]);
     let listed = report::list(&body[..n], &mut out[LISTING..end]);
-    put_listed(out, listed);
+    put_listed(&mut Writer::new(out), listed);
     send(rt, &out[..end])
 }
 
@@ -204,28 +200,35 @@ fn answered(rt: &HostRuntime, op: u8, body: &mut [u8; BODY], out: &mut [u8; ANSW
     }
 }
 
-// Reads and answers one case, and answers whether to go on.
-fn goes_on(rt: &HostRuntime, body: &mut [u8; BODY], out: &mut [u8; ANSWER]) -> bool {
-    let Ok(op) = head::<1>(rt) else {
-        return false;
-    };
-    match answered(rt, op[0], body, out) {
-        Ok(()) => true,
-        Err(Stop::Ended) => false,
-        Err(Stop::Malformed) => {
-            let _ = rt.stderr().write_all(b"bad case\n");
-            false
-        }
-    }
-}
-
-// A proved loop has to end: this one has more turns than any run uses up.
-fn main(rt: HostRuntime) {
+// Answers cases as long as they come. A proved loop has to end: this one has more turns than any run uses up.
+fn answer_all(rt: &HostRuntime) -> Turn {
     let mut body = [0u8; BODY];
     let mut out = [0u8; ANSWER];
     for _ in 0..u64::MAX {
-        if !goes_on(&rt, &mut body, &mut out) {
-            return;
-        }
+        let Some(op) = next_op(rt)? else {
+            return Ok(());
+        };
+        answered(rt, op, &mut body, &mut out)?;
     }
+    Ok(())
+}
+
+fn run(rt: &HostRuntime, to: Streams<'_>) -> Result<(), Failure> {
+    to.count_arguments(rt, 0, 0, b"none, and cases on standard input")?;
+    match answer_all(rt) {
+        Ok(()) => Ok(()),
+        Err(Stop::Malformed) => {
+            let _ = rt.stderr().write_all(b"bad case\n");
+            Err(Failure::Trouble)
+        }
+        Err(Stop::Unwritten) => Err(to.complain(
+            b"standard output could not be written whole",
+            b"room for the answers",
+        )),
+    }
+}
+
+fn main(rt: HostRuntime) -> ExitCode {
+    let to = Streams::of(&rt, b"batch");
+    exit_code(run(&rt, to))
 }

@@ -15,11 +15,12 @@ use envelope::Envelope;
 use line::Writer;
 use pattern::Answer;
 use reply::{Cause, Refusal};
+use sizing::Totals;
 
-// The number that stands for "last": no refusal has it.
+// The number that stands for "last": no refusal has it. A number, as C has no `Option` or `Result`.
 const LAST: u64 = 255;
 
-// A refusal's number and place, or what the entry point says of a success.
+// A refusal's number and place, or what the entry point says of a success. Flat, here and below, since C has no `Result`.
 #[repr(C)]
 #[derive(Clone, Copy)]
 pub struct TxoriReply {
@@ -38,6 +39,40 @@ impl From<Refusal> for TxoriReply {
     }
 }
 
+// Of closing: 0 and the place of the byte that was turned.
+impl From<Result<usize, Refusal>> for TxoriReply {
+    ghost from_gives = { λ answer reply. reply ≡ close_reply answer };
+
+    fn from(answer: Result<usize, Refusal>) -> TxoriReply {
+        match answer {
+            Ok(place) => TxoriReply {
+                number: 0,
+                place: place as u64,
+            },
+            Err(e) => TxoriReply::from(e),
+        }
+    }
+}
+
+// Of a pattern.
+impl From<Result<Answer, Refusal>> for TxoriReply {
+    ghost from_gives = { λ answer reply. reply ≡ answer_reply answer };
+
+    fn from(answer: Result<Answer, Refusal>) -> TxoriReply {
+        match answer {
+            Ok(Answer::Inside | Answer::Done) => TxoriReply {
+                number: 0,
+                place: 0,
+            },
+            Ok(Answer::Last) => TxoriReply {
+                number: LAST,
+                place: 0,
+            },
+            Err(e) => TxoriReply::from(e),
+        }
+    }
+}
+
 // What working a sheet out answers.
 #[repr(C)]
 #[derive(Clone, Copy)]
@@ -50,6 +85,31 @@ pub struct TxoriWorkOut {
     pub whole: u64,
 }
 
+impl From<Result<Totals, Refusal>> for TxoriWorkOut {
+    ghost from_gives = { λ answer reply. reply ≡ work_out_reply answer };
+
+    fn from(answer: Result<Totals, Refusal>) -> TxoriWorkOut {
+        match answer {
+            Ok(t) => TxoriWorkOut {
+                number: 0,
+                place: 0,
+                clocks: t.clocks as u64,
+                links: t.links as u64,
+                opened: t.opened,
+                whole: t.whole,
+            },
+            Err(e) => TxoriWorkOut {
+                number: e.number() as u64,
+                place: e.place as u64,
+                clocks: 0,
+                links: 0,
+                opened: 0,
+                whole: 0,
+            },
+        }
+    }
+}
+
 // What was written into a lent buffer: how many bytes, from its start on.
 #[repr(C)]
 #[derive(Clone, Copy)]
@@ -57,6 +117,25 @@ pub struct TxoriWritten {
     pub number: u64,
     pub place: u64,
     pub length: u64,
+}
+
+impl From<Result<usize, Refusal>> for TxoriWritten {
+    ghost from_gives = { λ answer reply. reply ≡ list_written answer };
+
+    fn from(answer: Result<usize, Refusal>) -> TxoriWritten {
+        match answer {
+            Ok(length) => TxoriWritten {
+                number: 0,
+                place: 0,
+                length: length as u64,
+            },
+            Err(e) => TxoriWritten {
+                number: e.number() as u64,
+                place: e.place as u64,
+                length: 0,
+            },
+        }
+    }
 }
 
 #[unsafe(no_mangle)]
@@ -67,61 +146,14 @@ pub extern "C" fn txori_work_out(
 ) -> TxoriWorkOut
     ensures { As work_out_reply (λ a. WorksOut sheet.now clocks.old links.old a clocks.new links.new) result }
 {
-    match sizing::work_out(sheet, clocks, links) {
-        Ok(t) => TxoriWorkOut {
-            number: 0,
-            place: 0,
-            clocks: t.clocks as u64,
-            links: t.links as u64,
-            opened: t.opened,
-            whole: t.whole,
-        },
-        Err(e) => {
-            let r = TxoriReply::from(e);
-            TxoriWorkOut {
-                number: r.number,
-                place: r.place,
-                clocks: 0,
-                links: 0,
-                opened: 0,
-                whole: 0,
-            }
-        }
-    }
+    TxoriWorkOut::from(sizing::work_out(sheet, clocks, links))
 }
 
 #[unsafe(no_mangle)]
 pub extern "C" fn txori_close(sheet: &mut [u8], clock: usize) -> TxoriReply
     ensures { As close_reply (λ a. Closes sheet.old clock a sheet.new) result }
 {
-    match register::close(sheet, clock) {
-        Ok(place) => TxoriReply {
-            number: 0,
-            place: place as u64,
-        },
-        Err(e) => TxoriReply::from(e),
-    }
-}
-
-// How many bytes were written, or the refusal.
-fn written(answer: Result<usize, Refusal>) -> TxoriWritten
-    ensures { result ≡ list_written answer }
-{
-    match answer {
-        Ok(length) => TxoriWritten {
-            number: 0,
-            place: 0,
-            length: length as u64,
-        },
-        Err(e) => {
-            let r = TxoriReply::from(e);
-            TxoriWritten {
-                number: r.number,
-                place: r.place,
-                length: 0,
-            }
-        }
-    }
+    TxoriReply::from(register::close(sheet, clock))
 }
 
 // Not by `copy_from_slice`, which calls memmove: the library promises to call nothing but memcpy and memset.
@@ -154,50 +186,33 @@ fn copy(sheet: &[u8], clock: usize, out: &mut [u8]) -> Result<usize, Refusal>
 pub extern "C" fn txori_quote(sheet: &[u8], clock: usize, out: &mut [u8]) -> TxoriWritten
     ensures { Copies sheet.now clock sheet.entry.ref_ptr out.old result out.new }
 {
-    written(copy(sheet, clock, out))
+    TxoriWritten::from(copy(sheet, clock, out))
 }
 
 #[unsafe(no_mangle)]
 pub extern "C" fn txori_list(sheet: &[u8], text: &mut [u8]) -> TxoriWritten
     ensures { As list_written (λ a. ListsInto sheet.now text.old a text.new) result }
 {
-    written(report::list(sheet, text))
-}
-
-// A pattern's answer as numbers.
-fn flat(answer: Result<Answer, Refusal>) -> TxoriReply
-    ensures { result ≡ answer_reply answer }
-{
-    match answer {
-        Ok(Answer::Inside | Answer::Done) => TxoriReply {
-            number: 0,
-            place: 0,
-        },
-        Ok(Answer::Last) => TxoriReply {
-            number: LAST,
-            place: 0,
-        },
-        Err(e) => TxoriReply::from(e),
-    }
+    TxoriWritten::from(report::list(sheet, text))
 }
 
 #[unsafe(no_mangle)]
 pub extern "C" fn txori_check(k: i64, K: i64, l: u64, n: u64, pattern: &[u8]) -> TxoriReply
     ensures { As answer_reply (λ a. Checks (numbers k K l n) pattern.now a) result }
 {
-    flat(pattern::check(Envelope { k, K, l, n }, pattern))
+    TxoriReply::from(pattern::check(Envelope { k, K, l, n }, pattern))
 }
 
 #[unsafe(no_mangle)]
 pub extern "C" fn txori_first(k: i64, K: i64, l: u64, n: u64, pattern: &mut [u8]) -> TxoriReply
     ensures { As answer_reply (λ a. Firsts (numbers k K l n) pattern.old a pattern.new) result }
 {
-    flat(pattern::first(Envelope { k, K, l, n }, pattern))
+    TxoriReply::from(pattern::first(Envelope { k, K, l, n }, pattern))
 }
 
 #[unsafe(no_mangle)]
 pub extern "C" fn txori_next(k: i64, K: i64, l: u64, n: u64, pattern: &mut [u8]) -> TxoriReply
     ensures { As answer_reply (λ a. Nexts (numbers k K l n) pattern.old a pattern.new) result }
 {
-    flat(pattern::next(Envelope { k, K, l, n }, pattern))
+    TxoriReply::from(pattern::next(Envelope { k, K, l, n }, pattern))
 }

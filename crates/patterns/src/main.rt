@@ -1,15 +1,17 @@
-// Prints the patterns of an envelope, one to a line, from the first on: patterns k K l n LENGTH [COUNT]
+// Prints the patterns of an envelope, one to a line, from the first on or from one that is given: patterns k K l n LENGTH [COUNT]
 #![tactic(auto)]
 
-ghost use Rattle.std.specs.Prelude.{IsTrue, ◌+◌, ◌≤◌, length};
+ghost use Rattle.std.specs.Prelude.{OnOk, ◌+◌, ◌≤◌, length};
 
+use asking::{FIGURES, Naming};
 use envelope::Envelope;
 use line::Writer;
 use pattern::Answer;
-use terminal::Streams;
+use std::process::ExitCode;
+use terminal::{Failure, Streams, exit_code, is_given, is_word};
 
-// One more than a pattern's most bits: any longer pattern is refused as this one is.
-const TOO_LONG: usize = 4_097;
+const USAGE: &[u8] =
+    b"k K l n LENGTH [COUNT] or FILE CLOCK LENGTH [COUNT], and from PATTERN in place of LENGTH to begin there";
 
 // Lines that wait to be printed. Their length stands beside the buffer since no heap is used.
 #[derive(Drop)]
@@ -29,114 +31,128 @@ impl<'a> Lines<'a> {
         }
     }
 
-    fn print(&self) -> bool {
+    fn print(&self) -> Result<(), Failure> {
         self.to.print(&self.text[..self.at])
     }
 
-    // Prints the lines where there is no room for `need` bytes more. False: they could not be written.
-    fn make_room(&mut self, need: usize) -> bool
+    // Prints the lines where there is no room for `need` bytes more.
+    fn make_room(&mut self, need: usize) -> Result<(), Failure>
         requires { need ≤ 65536 }
-        ensures { IsTrue result → self.new.at + need ≤ 65536 }
+        ensures { OnOk result (self.new.at + need ≤ 65536) }
     {
-        if need <= self.text.len() - self.at {
-            return true;
+        if need > self.text.len() - self.at {
+            self.print()?;
+            self.at = 0;
         }
-        if !self.print() {
-            return false;
-        }
-        self.at = 0;
-        true
+        Ok(())
     }
 
     // Adds a pattern's line.
-    fn put(&mut self, bits: &[u8]) -> bool
+    fn put(&mut self, bits: &[u8]) -> Result<(), Failure>
         requires { length bits.now + 1 ≤ 65536 }
     {
-        if !self.make_room(bits.len() + 1) {
-            return false;
-        }
+        self.make_room(bits.len() + 1)?;
         let mut out = Writer {
             bytes: &mut self.text,
             at: self.at,
         };
         dump::put_bits(&mut out, bits);
         self.at = out.at;
-        true
+        Ok(())
     }
 }
 
 // Prints `count` patterns from this one on. Where there are fewer, the lines are written, and then why.
-fn walk(to: Streams<'_>, e: Envelope, count: u64, bits: &mut [u8])
-    requires { length bits.old ≤ 4097 }
+fn walk(to: Streams<'_>, e: Envelope, count: u64, bits: &mut [u8]) -> Result<(), Failure>
+    requires { length bits.old ≤ 4098 }
 {
     let mut lines = Lines::of(to);
     for _ in 0..count {
-        if !lines.put(bits) {
-            return;
-        }
+        lines.put(bits)?;
         match pattern::next(e, bits) {
             Ok(Answer::Done) => {}
             Ok(_) => {
-                if lines.print() {
-                    to.print(b"last\n");
-                }
-                return;
+                lines.print()?;
+                return to.print(b"last\n");
             }
             Err(refusal) => {
-                if lines.print() {
-                    to.print_refused(refusal);
-                }
-                return;
+                lines.print()?;
+                return Err(to.refuse(None, refusal));
             }
         }
     }
-    lines.print();
+    lines.print()
 }
 
 // Prints from the first pattern on, which takes its place in the slice.
-fn start(to: Streams<'_>, e: Envelope, count: u64, bits: &mut [u8])
-    requires { length bits.old ≤ 4097 }
+fn from_first(to: Streams<'_>, e: Envelope, count: u64, bits: &mut [u8]) -> Result<(), Failure>
+    requires { length bits.old ≤ 4098 }
 {
     match pattern::first(e, bits) {
         Ok(_) => walk(to, e, count, bits),
-        Err(refusal) => {
-            to.print_refused(refusal);
-        }
+        Err(refusal) => Err(to.refuse(None, refusal)),
     }
 }
 
-fn print_patterns(to: Streams<'_>, e: Envelope, length: u64, count: u64) {
-    let mut bits = [0u8; TOO_LONG];
-    let m = length.min(TOO_LONG as u64) as usize;
-    start(to, e, count, &mut bits[..m]);
-}
-
-// The last argument, or more patterns than any run prints.
-fn count_argument(rt: &HostRuntime, to: Streams<'_>) -> Option<u64> {
-    if terminal::is_given(rt, 6) {
-        return to.natural_argument(rt, b"COUNT", 6);
+// Prints from this pattern on, if it is inside.
+fn from_given(to: Streams<'_>, e: Envelope, count: u64, bits: &mut [u8]) -> Result<(), Failure>
+    requires { length bits.old ≤ 4098 }
+{
+    match pattern::check(e, bits) {
+        Ok(_) => walk(to, e, count, bits),
+        Err(refusal) => Err(to.refuse(None, refusal)),
     }
-    Some(u64::MAX)
 }
 
-// None: there was a complaint.
-fn run(rt: &HostRuntime, to: Streams<'_>) -> Option<()> {
-    if !to.has_arguments(rt, 5, 6, b"k K l n LENGTH [COUNT]") {
-        return None;
+// By LENGTH.
+fn print_first(
+    rt: &HostRuntime,
+    to: Streams<'_>,
+    naming: Naming,
+    count: u64,
+) -> Result<(), Failure> {
+    let length = to.natural_argument(rt, b"LENGTH", naming.next())?;
+    let e = naming.envelope(rt, to)?;
+    let mut bits = [0u8; FIGURES];
+    // A longer pattern is refused as one that fills the slice.
+    let m = length.min(FIGURES as u64) as usize;
+    from_first(to, e, count, &mut bits[..m])
+}
+
+// By `from PATTERN`.
+fn print_given(
+    rt: &HostRuntime,
+    to: Streams<'_>,
+    naming: Naming,
+    count: u64,
+) -> Result<(), Failure> {
+    let mut bits = [0u8; FIGURES];
+    let (e, m) = naming.with_pattern(rt, to, naming.next() + 1, &mut bits)?;
+    from_given(to, e, count, &mut bits[..m])
+}
+
+// COUNT, or more patterns than any run prints.
+fn count_argument(rt: &HostRuntime, to: Streams<'_>, place: usize) -> Result<u64, Failure> {
+    if is_given(rt, place) {
+        return to.natural_argument(rt, b"COUNT", place);
     }
-    let e = Envelope {
-        k: to.whole_argument(rt, b"k", 1)?,
-        K: to.whole_argument(rt, b"K", 2)?,
-        l: to.natural_argument(rt, b"l", 3)?,
-        n: to.natural_argument(rt, b"n", 4)?,
-    };
-    let length = to.natural_argument(rt, b"LENGTH", 5)?;
-    let count = count_argument(rt, to)?;
-    print_patterns(to, e, length, count);
-    Some(())
+    Ok(u64::MAX)
 }
 
-fn main(rt: HostRuntime) {
+fn run(rt: &HostRuntime, to: Streams<'_>) -> Result<(), Failure> {
+    let naming = Naming::of(rt);
+    let is_from = is_word(rt, naming.next(), b"from");
+    let last = naming.next() + if is_from { 1 } else { 0 };
+    to.count_arguments(rt, last, last + 1, USAGE)?;
+    let count = count_argument(rt, to, last + 1)?;
+    if is_from {
+        print_given(rt, to, naming, count)
+    } else {
+        print_first(rt, to, naming, count)
+    }
+}
+
+fn main(rt: HostRuntime) -> ExitCode {
     let to = Streams::of(&rt, b"patterns");
-    let _ = run(&rt, to);
+    exit_code(run(&rt, to))
 }

@@ -4,47 +4,43 @@
 ghost use Rattle.std.specs.Prelude.{◌≤◌, length};
 
 use line::Writer;
-use std::fs;
-use terminal::Streams;
+use std::process::ExitCode;
+use terminal::{Failure, PATH, Streams, exit_code, input_name, sheet_space};
 
-fn print_expression(to: Streams<'_>, expression: &[u8])
+fn print_expression(to: Streams<'_>, expression: &[u8]) -> Result<(), Failure>
     requires { length expression.now ≤ 32769 }
 {
     let mut text = [0u8; 98307];
     let mut out = Writer::new(&mut text);
     dump::put_hex(&mut out, expression);
     let end = out.at;
-    to.print(&out.bytes[..end]);
+    to.print(&out.bytes[..end])
 }
 
 // An expression is never empty: only for a refusal is the sheet read twice.
-fn print_quote(to: Streams<'_>, sheet: &[u8], clock: usize)
+fn print_quote(to: Streams<'_>, name: &[u8], sheet: &[u8], clock: usize) -> Result<(), Failure>
     requires { length sheet.now ≤ 32769 }
 {
     let part = register::quote(sheet, clock);
     if !part.is_empty() {
-        print_expression(to, part);
-    } else if let Err(refusal) = register::quote_reply(sheet, clock) {
-        to.print_refused(refusal);
+        return print_expression(to, part);
+    }
+    match register::quote_reply(sheet, clock) {
+        Ok(()) => Ok(()),
+        Err(refusal) => Err(to.refuse(Some(name), refusal)),
     }
 }
 
-// None: there was a complaint.
-fn run(rt: &HostRuntime, to: Streams<'_>) -> Option<()> {
-    if !to.has_arguments(rt, 2, 2, b"FILE CLOCK") {
-        return None;
-    }
-    let mut space = [0u8; 4096];
-    let m = to.path_argument(rt, 1, &mut space)?;
-    let clock = to.natural_argument(rt, b"CLOCK", 2)?;
-    let path = to.path_text(&space[..m])?;
-    let mut sheet = terminal::sheet_space();
-    let n = to.read_file(fs::open(rt, path), path.as_bytes(), &mut sheet)?;
-    print_quote(to, &sheet[..n], clock as usize);
-    Some(())
+fn run(rt: &HostRuntime, to: Streams<'_>) -> Result<(), Failure> {
+    to.count_arguments(rt, 2, 2, b"FILE CLOCK")?;
+    let mut text = [0u8; PATH];
+    let (path, clock) = to.clock_arguments(rt, &mut text)?;
+    let mut sheet = sheet_space();
+    let n = to.read_path(rt, path, &mut sheet)?;
+    print_quote(to, input_name(path), &sheet[..n], clock)
 }
 
-fn main(rt: HostRuntime) {
+fn main(rt: HostRuntime) -> ExitCode {
     let to = Streams::of(&rt, b"quote");
-    let _ = run(&rt, to);
+    exit_code(run(&rt, to))
 }

@@ -1,1 +1,2 @@
 pub mod Counted
+mod Names

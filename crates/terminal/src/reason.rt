@@ -1,56 +1,37 @@
 // The system's words for a failure.
-ghost use Rattle.std.specs.Prelude.{◌≤◌, length};
-
+use crate::complaint::written;
 use line::Writer;
 use std::fmt::Write;
 use std::{fmt, io};
 
-// What std prints of a failure: the system's words, and of one that has a number then ` (os error NUMBER)`.
-// The length stands beside the buffer since no heap is used.
+// A writer of text that std can print into.
 #[derive(Drop)]
-pub struct Reason {
-    text: [u8; 96],
-    bytes: usize,
+struct Printed<'a> {
+    out: Writer<'a>,
 }
 
-impl Write for Reason {
+impl Write for Printed<'_> {
     fn write_str(&mut self, s: &str) -> fmt::Result {
-        let mut out = Writer {
-            bytes: &mut self.text,
-            at: self.bytes,
-        };
-        out.put_bytes(s.as_bytes());
-        self.bytes = out.at;
+        self.out.put_bytes(s.as_bytes());
         Ok(())
     }
 }
 
-impl Reason {
-    // All but the number.
-    pub fn words(&self) -> &[u8] {
-        &self.text[..words_len(&self.text, self.bytes)]
+// Puts what std prints of a failure: the system's words, without the ` (os error NUMBER)` that ends them.
+pub fn put_reason(out: &mut Writer<'_>, why: &io::Error) {
+    let mut text = [0u8; 96];
+    let mut printed = Printed {
+        out: Writer::new(&mut text),
+    };
+    let _ = write!(printed, "{why}");
+    out.put_bytes(words(written(&printed.out)));
+}
+
+// A text up to the blank and the bracket that open its number, or all of it where it has none.
+fn words(text: &[u8]) -> &[u8] {
+    let past_the_first = text.get(1..).unwrap_or(text);
+    match past_the_first.iter().rposition(|b| *b == b'(') {
+        Some(blank) => &text[..blank],
+        None => text,
     }
-}
-
-pub fn reason_of(why: &io::Error) -> Reason {
-    let mut reason = Reason {
-        text: [0; 96],
-        bytes: 0,
-    };
-    let _ = write!(reason, "{why}");
-    reason
-}
-
-// How many of the first bytes of a text stand before the blank and the bracket that open its number, or all where it has none.
-fn words_len(text: &[u8], bytes: usize) -> usize
-    ensures { result ≤ length text.now }
-{
-    let all = bytes.min(text.len());
-    let Some(past_the_first) = text.get(1..all) else {
-        return all;
-    };
-    past_the_first
-        .iter()
-        .rposition(|b| *b == b'(')
-        .unwrap_or(all)
 }
