@@ -11,7 +11,8 @@ use Rattle.std.specs.Prelude.{Result, Ok, Err}
 use Rattle.reply.specs.declared.Cause.{Cause}
 use Rattle.reply.specs.declared.Cause.TheVariants.{NoClock}
 use Rattle.reply.specs.declared.Refusal.{Refusal}
-use Rattle.reply.specs.Refusal.{refusal, refused_for}
+use Rattle.reply.specs.Refusal.{refused_for}
+use Rattle.reply.specs.Inner.Causes.{refusal}
 use Rattle.reply.proofs.Causes.{cause_with_number}
 use Rattle.field.specs.Read.{Read, Read.got, Read.refused, bind}
 use Rattle.field.specs.Spelling.{AllBytes}

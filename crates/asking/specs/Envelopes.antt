@@ -4,7 +4,7 @@ use Rattle.std.proofs.Math.Option.{Option, some, none}
 use Rattle.std.proofs.Math.ListN.{get_elem?}
 use Rattle.reply.specs.Numbers.{no_clock}
 use Rattle.reply.specs.declared.Refusal.{Refusal}
-use Rattle.reply.specs.Refusal.{refusal}
+use Rattle.reply.specs.Inner.Causes.{refusal}
 use Rattle.field.specs.Read.{Read, Read.got, Read.refused}
 use Rattle.envelope.specs.declared.Envelope.{Envelope}
 use Rattle.envelope.specs.declared.Node.{Node}

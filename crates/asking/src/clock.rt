@@ -27,10 +27,7 @@ pub fn clock_envelope(sheet: &[u8], clock: usize) -> Result<Envelope, Refusal>
     let mut links = [0i64; 768];
     let totals = sizing::work_out(sheet, &mut clocks, &mut links)?;
     if totals.clocks <= clock {
-        return Err(Refusal {
-            cause: Cause::NoClock,
-            place: 0,
-        });
+        return Err(Refusal::at(Cause::NoClock, 0));
     }
     Ok(numbers_from(&clocks, 4 * clock))
 }

@@ -38,14 +38,6 @@ const LISTING: usize = 17;
 // The most bytes of an answer.
 const ANSWER: usize = 65_553;
 
-// What a sheet comes to that is refused.
-const NOTHING: Totals = Totals {
-    clocks: 0,
-    links: 0,
-    opened: 0,
-    whole: 0,
-};
-
 // Writes an answer; where that fails the run ends.
 fn send(rt: &HostRuntime, answer: &[u8]) -> Turn {
     rt.stdout().write_all(answer).map_err(|_| Stop::Unwritten)
@@ -63,7 +55,7 @@ fn lend(numbers: &mut [i64], first: i64)
 // Puts what `work_out` answers beside the lent numbers.
 fn put_worked(out: &mut Writer<'_>, r: Result<Totals, Refusal>) {
     put_outcome(out, r.map(|_| 0));
-    let totals = r.unwrap_or(NOTHING);
+    let totals = r.unwrap_or_default();
     put_number(out, totals.clocks as u64);
     put_number(out, totals.links as u64);
     put_number(out, totals.opened);

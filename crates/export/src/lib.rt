@@ -174,10 +174,7 @@ fn copy(sheet: &[u8], clock: usize, out: &mut [u8]) -> Result<usize, Refusal>
         register::quote_reply(sheet, clock)?;
     }
     if out.len() < part.len() {
-        return Err(Refusal {
-            cause: Cause::ShortResult,
-            place: 0,
-        });
+        return Err(Refusal::at(Cause::ShortResult, 0));
     }
     Ok(put_part(out, part))
 }

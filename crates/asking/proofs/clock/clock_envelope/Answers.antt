@@ -1,6 +1,6 @@
 -- `clock_envelope` meets its contract. Assumes nothing.
 use Rattle.std.proofs.Common.{rules, arith, ap, ◌∙◌, Ok}
-use Rattle.std.proofs.lemmas.Result.{err_from_is_err_and}
+use Rattle.reply.proofs.Refusals.{passed_on}
 use Rattle.field.specs.Spelling.{AllBytes}
 use Rattle.asking.proofs.Given.{refused_too, absent_too, there_too}
 use Rattle.asking.proofs.clock.clock_envelope.Goals as goal
@@ -8,13 +8,12 @@ use Rattle.asking.proofs.clock.clock_envelope.Goals as goal
 pub returns-in_err-totals : goal.returns-in_err-totals
 returns-in_err-totals c =
     let bytes : AllBytes c.args.sheet.now = search rules in
-    let p = err_from_is_err_and c.from_residual.result c.from_residual.ensures.1 in
-    rw (p.1, p.2) (refused_too _ bytes c.args.clock _ _ (omega arith) (omega arith) _ _ _ c.work_out.ensures _ c.in_err-totals.was)
+    rw (passed_on _ _ c.from_residual.ensures) (refused_too _ bytes c.args.clock _ _ (omega arith) (omega arith) _ _ _ c.work_out.ensures _ c.in_err-totals.was)
 
 pub returns-then-totals-clock : goal.returns-then-totals-clock
 returns-then-totals-clock c =
     let bytes : AllBytes c.args.sheet.now = search rules in
-    absent_too _ bytes c.args.clock _ _ (omega arith) (omega arith) _ _ _ c.work_out.ensures _ c.in_ok-totals.was c.if-totals-clock.true
+    rw c.at.ensures (absent_too _ bytes c.args.clock _ _ (omega arith) (omega arith) _ _ _ c.work_out.ensures _ c.in_ok-totals.was c.if-totals-clock.true)
 
 pub overflow_mul-clock : goal.overflow_mul-clock
 overflow_mul-clock c =
