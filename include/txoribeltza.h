@@ -89,7 +89,7 @@ enum {
     /* A listing's most bytes: a buffer of so many is never too short for txori_list. */
     TXORI_LISTING_MOST = 18463,
     /* A call's most bytes of stack, whatever it is given, besides what memcpy and memset take. */
-    TXORI_STACK_MOST = 8600,
+    TXORI_STACK_MOST = 8000,
 
     /* Numbers per clock: k, K, l, n, the envelope of its rhythm. k is from -1,000,000,000 to 1,000,000,000, K from 0 to
        1,000,000,000, l from 1 to 1,000,000 and n from 1 to l; l and n have no common factor, K - k >= n - 1, and k is
