@@ -7,7 +7,7 @@ ghost use Rattle.std.specs.Prelude.{◌≡◌, ◌≤◌};
 ghost use Rattle.reply.specs.Refusal.{cause_number};
 ghost use Rattle.field.specs.Field.{field_at, field_in, signed_at, signed_in, read_of};
 
-pub use number::{HALF_32, HALF_64, from_twos, low_first, put_low_first, to_twos};
+pub use number::{HALF_32, HALF_64, from_twos, low_first};
 use reply::{Cause, Refusal};
 
 #[derive(Clone, Copy, Debug, PartialEq, Eq)]
