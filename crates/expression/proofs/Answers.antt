@@ -1,28 +1,25 @@
 -- What the evaluator is to answer, tag by tag, over tables.
 -- Assumes nothing.
-use mathlib.Core.Path.{◌≡◌, refl, sym, ap, ◌∙◌, subst}
+use mathlib.Core.Path.{◌≡◌, refl, sym, ap, ◌∙◌}
 use mathlib.Core.Bool.{cond}
 use mathlib.Core.List.{List}
 use mathlib.Core.Option.{Option, none, some}
-use Prim.Native.Nat.{ℕ, zero, suc, ◌+◌, ◌-◌, ◌/◌, ◌<◌}
+use Prim.Native.Nat.{ℕ, zero, suc, ◌+◌, ◌-◌}
 use native.Mathlib.Numerals.{sub-one}
 use native.Mathlib.Omega.{arith}
-use lib.IntN.{ℤ}
-use lib.Dec.{leb, ltb, eqb}
-use lib.ListN.{length, get_elem?}
-use borrow.Author.Tests.{ne_eqb, le-leb, lt-ltb, le-ltb}
-use Rattle.reply.specs.Numbers.{beyond, absent, too_deep}
+use lib.Dec.{eqb}
+use lib.ListN.{get_elem?}
+use borrow.Author.Tests.{ne_eqb}
+use Rattle.reply.specs.Numbers.{beyond, too_deep}
 use Rattle.field.specs.Read.{Read, Read.got, Read.refused, bind, mapped}
-use Rattle.field.specs.Field.{field_at, field_in}
+use Rattle.field.specs.Field.{field_at}
 use Rattle.field.specs.Format.{Judged.fails, Format}
 use Rattle.field.specs.Run.{settled, run}
-use Rattle.field.proofs.Read.{mapped_got}
 use Rattle.field.proofs.Format.{ranged_run, signed_run}
 use Rattle.envelope.specs.declared.Envelope.{Envelope}
 use Rattle.envelope.specs.declared.Node.{Node}
 use Rattle.std.specs.Prelude.{Ok, Err}
 use Rattle.envelope.specs.Limits.{l_most, lower_least, lower_most, upper_least, upper_most}
-use Rattle.envelope.specs.Envelope.{Taken}
 use Rattle.envelope.specs.Made.{Made, declared_of, negated_of, on_within_limits}
 use Rattle.expression.specs.declared.Tag.{Tag}
 use Rattle.expression.specs.Expression.{Expr}
@@ -32,8 +29,6 @@ use Rattle.expression.specs.Format.{Valued, tag, found, named, parts, expression
 use Rattle.expression.specs.Inner.Parts.{placed, there, listed_at, declared_at}
 use Rattle.expression.proofs.Fields.{declared_worth_lem, fields_read}
 use Rattle.expression.proofs.Format.{complete}
-use Rattle.expression.proofs.Evaluated.{evaluate_taken}
-use Rattle.expression.proofs.Reader.{accepted}
 
 -- the node of an expression at a with d levels left, or the refusal
 abbrev pub answer : List ℕ → List Node → List Node → ℕ → ℕ → Read Node

@@ -7,7 +7,7 @@ use native.Mathlib.Omega.{arith}
 use lib.ListN.{length}
 use lib.Dec.{leb}
 use borrow.Author.Tests.{leb-true, le-leb}
-use Rattle.field.specs.Read.{Read, Read.got, Read.refused}
+use Rattle.field.specs.Read.{Read.got}
 use Rattle.envelope.specs.declared.Node.{Node}
 use Rattle.link.specs.declared.Row.{Row}
 use Rattle.reading.specs.declared.Found.{Found}
@@ -26,7 +26,6 @@ use Rattle.line.proofs.Puts.{put_then, put_line_lem, put_at, put_fits}
 use Rattle.reply.specs.declared.Cause.TheVariants.{ShortResult}
 use Rattle.reply.specs.declared.Refusal.{Refusal}
 use Rattle.reply.specs.Refusal.{refused_for}
-use Rattle.reply.specs.Inner.Causes.{refusal}
 use Rattle.reply.proofs.Causes.{same_refusal}
 use Rattle.std.specs.Prelude.{Result, Ok, Err}
 use Rattle.line.specs.Letters.{letters}

@@ -1,14 +1,9 @@
 -- The links section as the code reads it: their ends in a table. Assumes nothing.
 use mathlib.Core.Path.{◌≡◌, refl, ap, ◌∙◌}
 use mathlib.Core.List.{List, [], ◌∷◌, map}
-use Prim.Native.Nat.{ℕ, ◌<◌}
-use native.Mathlib.Omega.{arith}
+use Prim.Native.Nat.{ℕ}
 use lib.ListN.{length, take}
-use Rattle.reply.specs.Numbers.{absent}
 use Rattle.field.specs.Read.{Read, Read.got}
-use Rattle.field.specs.Field.{field_in}
-use Rattle.field.proofs.Read.{through}
-use Rattle.field.proofs.Fields.{field_there}
 use Rattle.std.specs.Prelude.{Result}
 use Rattle.reply.specs.declared.Refusal.{Refusal}
 use Rattle.field.specs.declared.Cursor.{Cursor}

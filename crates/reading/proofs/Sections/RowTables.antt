@@ -8,7 +8,7 @@ use Rattle.std.proofs.lemmas.List.{take_more_set}
 use Rattle.field.specs.Read.{Read, Read.got, Read.refused, mapped}
 use Rattle.field.specs.Field.{read_of}
 use Rattle.field.specs.declared.Cursor.{Cursor}
-use Rattle.std.specs.Prelude.{Result, Ok, Err}
+use Rattle.std.specs.Prelude.{Result, Err}
 use Rattle.reply.specs.declared.Refusal.{Refusal}
 use Rattle.reply.specs.Refusal.{cause_number}
 use Rattle.field.proofs.Read.{refused_got}

@@ -16,7 +16,7 @@ use Rattle.std.specs.Prelude.{Result, Ok, Err}
 use Rattle.reply.specs.declared.Refusal.{Refusal}
 use Rattle.reply.specs.Refusal.{cause_number, refused_for}
 use Rattle.reply.specs.Inner.Causes.{cause_with}
-use Rattle.field.proofs.Read.{through, cond_left, mapped_got, mapped_refused}
+use Rattle.field.proofs.Read.{through, cond_left, mapped_got}
 use Rattle.field.proofs.Spelling.{end}
 use Rattle.envelope.specs.declared.Node.{Node}
 use Rattle.expression.specs.Expression.{Word, spell_word}

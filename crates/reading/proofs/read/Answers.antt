@@ -1,5 +1,5 @@
 -- `read` meets its contract: the words' reader decides, and then what is read from the clocks on. Assumes nothing.
-use Rattle.std.proofs.Common.{◌≤◌, sym, ◌∙◌, arith}
+use Rattle.std.proofs.Common.{◌≤◌, ◌∙◌, arith}
 use Rattle.sheet.specs.Sheet.{words_most}
 use Rattle.reply.proofs.Refusals.{passed_on}
 use Rattle.reading.proofs.Sections.Stages.{too_long, words_refused, few_words, words_then}

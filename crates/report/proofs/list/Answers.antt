@@ -9,9 +9,6 @@ use Rattle.report.proofs.list.Goals as goal
 found : (c : In_ok-found) → FoundIn c.args.sheet.now c.in_ok-found.found c.read.new.tables.nodes c.read.new.tables.states c.read.new.tables.ends
 found c = record { bytes = λ j. (c.type_inv.sheet j).fits; told = sym c.read.ensures.found ∙ c.in_ok-found.was; tabled = c.read.ensures.tables }
 
-pub of-requires : goal.of-requires
-of-requires c = (c.args.sheet.now, found (goal.at.of-requires c).In_ok-found)
-
 pub list_rows-requires : goal.list_rows-requires
 list_rows-requires c = let f = found (goal.at.list_rows-requires c).In_ok-found in text_most _ f _ _ _ (c.of.ensures _ f)
 

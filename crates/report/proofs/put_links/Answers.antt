@@ -15,11 +15,6 @@ loop-i-init c = record { same = refl; going = refl; summed = summed_none _ _ _ _
 pub row-r-requires : goal.row-r-requires
 row-r-requires c = c.args.rows.now.ready.there _ _ (lookup_at _ c.loop-i.i _ (omega arith) c.ends-item.is)
 
-pub plus-rooms-requires : goal.plus-rooms-requires
-plus-rooms-requires c =
-    let few = c.args.rows.now.ready.few_links in
-    (c.row-r.ensures.small, omega (arith, c.loop-i.invariant.summed.open_few, few), omega (arith, c.loop-i.invariant.summed.whole_few, few))
-
 pub loop-i-preserved : goal.loop-i-preserved
 loop-i-preserved c =
     let rows = c.args.rows.now in

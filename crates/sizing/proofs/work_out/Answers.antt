@@ -8,9 +8,6 @@ use Rattle.sizing.proofs.work_out.Goals as goal
 pub returns-in_err-found : goal.returns-in_err-found
 returns-in_err-found c = rw (passed_on _ _ c.from_residual.ensures) (out_refused _ _ _ _ (sym c.in_err-found.ensures.found))
 
-pub of-requires : goal.of-requires
-of-requires c = (c.args.sheet.now, record { bytes = λ j. (c.type_inv.sheet j).fits; told = sym c.in_ok-found.ensures.found; tabled = c.in_ok-found.ensures.tables })
-
 pub returns : goal.returns
 returns c =
     let found : FoundIn c.args.sheet.now c.in_ok-found.found c.read.new.tables.nodes c.read.new.tables.states c.read.new.tables.ends =

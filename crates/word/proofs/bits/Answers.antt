@@ -1,10 +1,9 @@
 -- `bits` meets its contract: the bits that are left are counted on from the 1s so far.
 -- Assumes nothing.
 use Rattle.std.proofs.Common.{◌≡◌, ◌+◌, ◌-◌, ◌<◌, ◌≤◌, ℕ, length, sym, ap, ◌∙◌, arith}
-use lib.ListN.{get_or, take, drop}
-use Rattle.reply.specs.Numbers.{unknown}
+use lib.ListN.{take, drop}
 use Rattle.field.specs.Read.{Read.got}
-use Rattle.word.proofs.BitCounts.{bit_missing, bit_got, bit_unknown, lent_many, lent_bit, counted, count_start, count_more, count_refused, count_all}
+use Rattle.word.proofs.BitCounts.{bit_missing, bit_got, bit_unknown, lent_many, lent_bit, count_start, count_more, count_refused, count_all}
 use Rattle.word.proofs.bits.Goals as goal
 use Rattle.word.proofs.bits.Goals.{After-min-there}
 

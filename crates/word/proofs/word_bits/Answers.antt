@@ -19,9 +19,6 @@ slice_bounds-envelope_of-count c = (lay (goal.at.slice_bounds-envelope_of-count 
 pub slice_bounds-envelope_of-start : goal.slice_bounds-envelope_of-start
 slice_bounds-envelope_of-start c = (lay (goal.at.slice_bounds-envelope_of-start c).In_ok-ones).from
 
-pub slice_bounds-envelope_of-end : goal.slice_bounds-envelope_of-end
-slice_bounds-envelope_of-end c = (lay (goal.at.slice_bounds-envelope_of-end c).In_ok-ones).there
-
 pub envelope_of-envelope-requires : goal.envelope_of-envelope-requires
 envelope_of-envelope-requires c =
     let l = lay (goal.at.envelope_of-envelope-requires c).In_ok-ones in

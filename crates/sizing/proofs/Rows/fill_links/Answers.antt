@@ -1,13 +1,12 @@
 -- `Rows::fill_links` meets its contract: the rows so far are written and summed up. Assumes nothing.
-use mathlib.Core.Path.{◌≡◌, refl, ap, ◌∙◌}
+use mathlib.Core.Path.{◌≡◌, refl}
 use mathlib.Core.List.{◌∷◌, [], ◌++◌}
-use Prim.Native.Nat.{◌+◌, ◌<◌, ◌≤◌}
+use Prim.Native.Nat.{◌+◌, ◌<◌}
 use native.Mathlib.Omega.{arith}
 use lib.ListN.{length, take}
 use Rattle.expression.proofs.Lookup.{lookup_at}
 use Rattle.sizing.specs.WorkOut.{link_numbers}
-use Rattle.sizing.specs.Inner.Rows.{rows_in, rooms_over}
-use Rattle.sizing.proofs.Written.{rows_to, written_none, written_more, written_all, summed_none, rows_more, summed_more, rows_all, take_next}
+use Rattle.sizing.proofs.Written.{written_none, written_more, summed_none, rows_more, summed_more, take_next}
 use Rattle.sizing.proofs.Rows.fill_links.Goals as goal
 use Rattle.sizing.proofs.Rows.fill_links.Goals.{After-ends-item, After-loop-i}
 
@@ -15,20 +14,11 @@ use Rattle.sizing.proofs.Rows.fill_links.Goals.{After-ends-item, After-loop-i}
 next : (c : After-ends-item) → c.loop-i.i < length c.args.self.now.ends.now → take (c.loop-i.i + 1) c.args.self.now.ends.now ≡ take c.loop-i.i c.args.self.now.ends.now ++ (c.ends-item.result ∷ [])
 next c more = take_next c.args.self.now.ends.now c.loop-i.i c.ends-item.result more c.ends-item.is
 
--- at the end of the loop all rows were gone over
-rows : (c : After-loop-i) → length c.args.self.now.ends.now ≤ c.loop-i.i → rows_to c.args.self.now.nodes.now c.args.self.now.states.now c.args.self.now.ends.now c.loop-i.i ≡ rows_in c.args.self.now.nodes.now c.args.self.now.states.now c.args.self.now.ends.now
-rows c done = rows_all c.args.self.now.nodes.now c.args.self.now.states.now c.args.self.now.ends.now c.loop-i.i done
-
 pub loop-i-init : goal.loop-i-init
 loop-i-init c = record { summed = summed_none _ _ _ _ c.default-rooms.ensures; written = written_none link_numbers 3 (λ r. refl) _ }
 
 pub row-r-requires : goal.row-r-requires
 row-r-requires c = c.args.self.now.ready.there _ _ (lookup_at _ c.loop-i.i _ (omega arith) c.ends-item.is)
-
-pub plus-rooms-requires : goal.plus-rooms-requires
-plus-rooms-requires c =
-    let few = c.args.self.now.ready.few_links in
-    (c.row-r.ensures.small, omega (arith, c.loop-i.invariant.summed.open_few, few), omega (arith, c.loop-i.invariant.summed.whole_few, few))
 
 pub loop-i-preserved : goal.loop-i-preserved
 loop-i-preserved c = let more = next (goal.at.loop-i-preserved c).After-ends-item (omega arith) in record {
@@ -36,11 +26,3 @@ loop-i-preserved c = let more = next (goal.at.loop-i-preserved c).After-ends-ite
   written = rw (rows_more c.args.self.now.nodes.now c.args.self.now.states.now c.args.self.now.ends.now c.loop-i.i _ c.row-r.result more c.row-r.ensures.row)
       (written_more link_numbers 3 (λ q. refl) _ _ _ _ _ c.loop-i.invariant.written c.row-r.result (omega arith) c.store_row.ensures);
 }
-
-pub returns-clause-rooms : goal.returns-clause-rooms
-returns-clause-rooms c = c.loop-i.invariant.summed.sums ∙ ap rooms_over (rows (goal.at.returns-clause-rooms c).After-loop-i (omega arith))
-
-pub returns-clause-rows : goal.returns-clause-rows
-returns-clause-rows c =
-    let done : c.loop-i.i ≡ length c.args.self.now.ends.now = omega arith in
-    rw (← done, ← rows (goal.at.returns-clause-rows c).After-loop-i (omega arith)) (written_all link_numbers 3 (λ q. refl) _ _ _ _ c.loop-i.invariant.written)
