@@ -74,7 +74,7 @@ impl<'a> Rows<'a> {
         }
     }
 
-    // The rows of the links are left in `list`.
+    // The rows of the links are left in `list`. Not one function with `fill_clocks`: these are summed up too, and each row has its own bounds.
     fn fill_links(&self, list: &mut [i64]) -> Rooms
         requires { 3 * length self.now.ends.now ≤ length list.old }
         ensures rooms { result ≡ rooms_over (rows_in self.now.nodes.now self.now.states.now self.now.ends.now) }
