@@ -46,7 +46,7 @@ fn read_figures(rt: &HostRuntime, to: Streams<'_>, bits: &mut [u8]) -> Result<us
     Ok(line(&bits[..n]).len())
 }
 
-// Puts the bits of PATTERN at the start of the slice, and answers how many there are. `-` stands for a line of standard input.
+// Puts the bits of PATTERN at the start of the slice, and answers how many there are, as std's `read`. `-` stands for a line of standard input.
 pub fn pattern_argument(
     rt: &HostRuntime,
     to: Streams<'_>,

@@ -29,10 +29,7 @@ fn of_clock(rt: &HostRuntime, to: Streams<'_>) -> Result<Envelope, Failure> {
     let (path, clock) = to.clock_arguments(rt, &mut text)?;
     let mut sheet = sheet_space();
     let n = to.read_path(rt, path, &mut sheet)?;
-    match clock_envelope(&sheet[..n], clock) {
-        Ok(e) => Ok(e),
-        Err(refusal) => Err(to.refuse(Some(input_name(path)), refusal)),
-    }
+    to.or_refuse(Some(input_name(path)), clock_envelope(&sheet[..n], clock))
 }
 
 impl Naming {

@@ -24,7 +24,7 @@ const BODY: usize = 40_000;
 // The most numbers that are lent for clocks or for links.
 const LENT: usize = 1_024;
 
-// The number that stands for "last".
+// The number that stands for "last": an answer is bytes (docs/BATCH.md).
 const LAST: u8 = 255;
 
 // The most bytes that are lent for a text.
@@ -76,6 +76,7 @@ fn worked_out(
     send(rt, written(&answer))
 }
 
+// `rt`, `body` and `out` go apart, here and below: a part of `body` is lent on while `out` is written.
 fn work_out(rt: &HostRuntime, body: &mut [u8; BODY], out: &mut [u8; ANSWER]) -> Turn {
     let head = head::<12>(rt)?;
     let a = limited(low_first(&head, 0, 4), LENT)?;
@@ -181,7 +182,7 @@ fn list(rt: &HostRuntime, body: &mut [u8; BODY], out: &mut [u8; ANSWER]) -> Turn
     send(rt, &out[..end])
 }
 
-// One case, its first byte in op.
+// One case, its first byte in op. By a match, since each operation reads other numbers first.
 fn answered(rt: &HostRuntime, op: u8, body: &mut [u8; BODY], out: &mut [u8; ANSWER]) -> Turn {
     match Op::try_from(op)? {
         Op::WorkOut => work_out(rt, body, out),

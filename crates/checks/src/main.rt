@@ -11,10 +11,8 @@ fn run(rt: &HostRuntime, to: Streams<'_>) -> Result<(), Failure> {
     to.count_arguments(rt, place, place, b"k K l n PATTERN or FILE CLOCK PATTERN")?;
     let mut bits = [0u8; FIGURES];
     let (e, n) = naming.with_pattern(rt, to, place, &mut bits)?;
-    match pattern::check(e, &bits[..n]) {
-        Ok(_) => to.print(b"inside\n"),
-        Err(refusal) => Err(to.refuse(None, refusal)),
-    }
+    to.or_refuse(None, pattern::check(e, &bits[..n]))?;
+    to.print(b"inside\n")
 }
 
 fn main(rt: HostRuntime) -> ExitCode {

@@ -36,6 +36,7 @@ impl Model for Entry {
 }
 
 impl Entry {
+    // Not `From`, since it asks for a taken node.
     pub fn of(x: Node) -> Entry
         requires { Taken x.envelope }
         ensures { result ≡ x }
@@ -61,6 +62,7 @@ impl Entry {
         }
     }
 
+    // Not `From`, since it says too that the node is taken.
     pub fn node(self) -> Node
         ensures node { result ≡ self }
         ensures taken { Taken result.envelope }

@@ -80,15 +80,13 @@ impl Tag {
     }
 }
 
-// What a rule made, with the cursor past the node, or its refusal at the node's tag. By a match, since both sides change.
+// What a rule made, with the cursor past the node, or its refusal at the node's tag.
 fn place(made: Made, c: Cursor, tag: Cursor) -> Read<Entry>
     requires { IfOk made (λ x. Taken x.envelope) }
     ensures { read_of result ≡ placed (worth_of made) c.at tag.at }
 {
-    match made {
-        Ok(x) => Ok((Entry::of(x), c)),
-        Err(flaw) => Err(tag.refusal(flaw.into())),
-    }
+    let x = made.map_err(|flaw| tag.refusal(flaw.into()))?;
+    Ok((Entry::of(x), c))
 }
 
 // A word or an earlier clock, by its index in a table.

@@ -10,6 +10,7 @@ ghost use Rattle.field.specs.Field.{field_at, field_in, signed_at, signed_in, re
 pub use number::{HALF_32, HALF_64, from_twos, low_first};
 use reply::{Cause, Refusal};
 
+// A place in a sheet, which is passed beside it: with the slice inside, each answer would carry two words more, and each contract the name of the slice.
 #[derive(Clone, Copy, Debug, PartialEq, Eq)]
 pub struct Cursor {
     pub at: usize,

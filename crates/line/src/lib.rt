@@ -47,7 +47,7 @@ impl<'a> Writer<'a> {
         }
     }
 
-    // The digits of x, the first ones by a call of its own, so that none is moved.
+    // The digits of x, the first ones by a call of its own, so that none is moved. By hand, since std's `fmt` says nothing of the text that it writes.
     #[tactic(auto, using(crate::proofs::Puts::put_then, crate::proofs::Digits::digits_few, crate::proofs::Digits::digits_more), unfolding(crate::specs::Text::put))]
     pub fn put_digits(&mut self, x: u64)
         ensures { Leaves self.old self.new (put (out_in self.old) (digits x)) }

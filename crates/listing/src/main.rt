@@ -7,6 +7,7 @@ use terminal::{Failure, PATH, Streams, exit_code, input_name, is_given, sheet_sp
 // Prints the listing of a sheet, or its refusal.
 fn print_listing(to: Streams<'_>, name: &[u8], sheet: &[u8]) -> Result<(), Failure> {
     let mut text = [0u8; report::TEXT_MOST];
+    // Not by `or_refuse`: that n is within the text would be lost on the way through it.
     match report::list(sheet, &mut text) {
         Ok(n) => to.print(&text[..n]),
         Err(refusal) => Err(to.refuse(Some(name), refusal)),

@@ -62,7 +62,7 @@ impl<'a> Lines<'a> {
     }
 }
 
-// Prints `count` patterns from this one on. Where there are fewer, the lines are written, and then why.
+// Prints `count` patterns from this one on. That they are short stays a clause: a slice has any length. Where there are fewer, the lines are written, and then why.
 fn walk(to: Streams<'_>, e: Envelope, count: u64, bits: &mut [u8]) -> Result<(), Failure>
     requires { length bits.old ≤ 4098 }
 {
@@ -84,26 +84,6 @@ fn walk(to: Streams<'_>, e: Envelope, count: u64, bits: &mut [u8]) -> Result<(),
     lines.print()
 }
 
-// Prints from the first pattern on, which takes its place in the slice.
-fn from_first(to: Streams<'_>, e: Envelope, count: u64, bits: &mut [u8]) -> Result<(), Failure>
-    requires { length bits.old ≤ 4098 }
-{
-    match pattern::first(e, bits) {
-        Ok(_) => walk(to, e, count, bits),
-        Err(refusal) => Err(to.refuse(None, refusal)),
-    }
-}
-
-// Prints from this pattern on, if it is inside.
-fn from_given(to: Streams<'_>, e: Envelope, count: u64, bits: &mut [u8]) -> Result<(), Failure>
-    requires { length bits.old ≤ 4098 }
-{
-    match pattern::check(e, bits) {
-        Ok(_) => walk(to, e, count, bits),
-        Err(refusal) => Err(to.refuse(None, refusal)),
-    }
-}
-
 // By LENGTH.
 fn print_first(
     rt: &HostRuntime,
@@ -116,7 +96,8 @@ fn print_first(
     let mut bits = [0u8; FIGURES];
     // A longer pattern is refused as one that fills the slice.
     let m = length.min(FIGURES as u64) as usize;
-    from_first(to, e, count, &mut bits[..m])
+    to.or_refuse(None, pattern::first(e, &mut bits[..m]))?;
+    walk(to, e, count, &mut bits[..m])
 }
 
 // By `from PATTERN`.
@@ -128,7 +109,8 @@ fn print_given(
 ) -> Result<(), Failure> {
     let mut bits = [0u8; FIGURES];
     let (e, m) = naming.with_pattern(rt, to, naming.next() + 1, &mut bits)?;
-    from_given(to, e, count, &mut bits[..m])
+    to.or_refuse(None, pattern::check(e, &bits[..m]))?;
+    walk(to, e, count, &mut bits[..m])
 }
 
 // COUNT, or more patterns than any run prints.

@@ -25,10 +25,7 @@ fn print_quote(to: Streams<'_>, name: &[u8], sheet: &[u8], clock: usize) -> Resu
     if !part.is_empty() {
         return print_expression(to, part);
     }
-    match register::quote_reply(sheet, clock) {
-        Ok(()) => Ok(()),
-        Err(refusal) => Err(to.refuse(Some(name), refusal)),
-    }
+    to.or_refuse(Some(name), register::quote_reply(sheet, clock))
 }
 
 fn run(rt: &HostRuntime, to: Streams<'_>) -> Result<(), Failure> {

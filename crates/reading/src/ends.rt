@@ -21,6 +21,7 @@ impl Model for Ends {
 }
 
 impl Ends {
+    // Not `From`, since it asks for indices that fit.
     pub fn of(producer: usize, consumer: usize) -> Ends
         requires { (producer < 256) × (consumer < 256) }
         ensures { result ≡ record { producer = producer; consumer = consumer } }

@@ -28,7 +28,7 @@ pub const LINKS_MOST: usize = 256;
 pub const DEPTH_MOST: usize = 12;
 
 // The words section: how many words there are, and the cursor past them; their nodes are left in `table`.
-// A loop, as for clocks and links: nothing is known of a lent table after a closure stored in it, and a trait takes three structs and impls for four lines.
+// A loop by index, as for clocks, which read the front of their own table, and for links: nothing is known of a lent table after a closure stored in it, and a trait takes three structs and impls for four lines.
 fn read_words(start: Cursor, s: &[u8], table: &mut [Entry; 64]) -> Read<usize>
     ensures { WordRows s.now start.at result table.new }
 {
@@ -66,7 +66,7 @@ fn clock(start: Cursor, s: &[u8], words: &[Entry], clocks: &[Entry]) -> Read<Mar
 }
 
 // n clocks: the cursor past them; their nodes and states are left in the tables.
-// A loop of its own: a clock also reads the table that it is stored in.
+// That n is at most 128 stays a clause, here and below: a type for a count would be unpacked at each use.
 fn clock_rows(
     start: Cursor,
     s: &[u8],
@@ -129,7 +129,8 @@ pub struct Found {
     pub clockrows: usize,
 }
 
-// What reading leaves of a sheet: its clocks' nodes and states, and its links' ends. They are lent, and never copied.
+// What reading leaves of a sheet: its clocks' nodes and states, and its links' ends. They are lent, and never copied. Nodes and states stand apart, since an
+// expression reads the nodes of words and of clocks alike, and no states.
 #[derive(Drop)]
 pub struct Tables {
     pub nodes: [Entry; 128],

@@ -18,7 +18,7 @@ pub fn close(sheet: &mut [u8], clock: usize) -> Result<usize, Refusal>
     Ok(at)
 }
 
-// The very part of the sheet that holds a clock's expression; an empty part of its start where that is refused.
+// The very part of the sheet that holds a clock's expression; an empty part of its start where that is refused: where the part lies is promised then too.
 pub fn quote(sheet: &[u8], clock: usize) -> &[u8]
     ensures { Quotes sheet.now clock sheet.entry.ref_ptr result.now result.ref_ptr }
 {

@@ -83,6 +83,7 @@ fn put_room(out: &mut Writer<'_>, rooms: Rooms)
 fn put_clocks(out: &mut Writer<'_>, rows: &Rows)
     ensures { Leaves out.old out.new (put (out_in out.old) (clock_lines 0 rows.now.states.now rows.now.nodes.now)) }
 {
+    // By the index of both tables: of a `zip` the check knows the steps and no index, and the proof didn't close.
     for (i, x) in rows.nodes.iter().enumerate() {
         put_clock(out, i, rows.states[i], x.node().envelope);
     }

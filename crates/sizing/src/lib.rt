@@ -17,7 +17,7 @@ use link::{Row, judge};
 use reading::{Ends, Found, Tables, read};
 use reply::{Cause, Refusal};
 
-// Numbers per clock, and per link, in the slices that callers lend.
+// Numbers per clock, and per link, in the slices that callers lend: flat, as C has them.
 const PER_CLOCK: usize = 4;
 
 const PER_LINK: usize = 3;
@@ -126,7 +126,7 @@ fn store_clock(x: Node, list: &mut [i64], i: usize)
     list[at + 3] = n;
 }
 
-// Verdict, size and state, stored for link i. Not one function with `store_clock`: what bounds the numbers differs.
+// Verdict, size and state, stored for link i. Not one function with `store_clock`: over arrays of numbers it would take two more, which make the arrays.
 fn store_row(r: Row, list: &mut [i64], i: usize)
     requires { (3 * i + 2 < length list.old) × (size_in r.verdict ≤ 3000000000) }
     ensures { list.new ≡ sets list.old (3 * i) (link_numbers r) }
@@ -149,7 +149,7 @@ pub struct Rooms {
 }
 
 impl Rooms {
-    // With one link more.
+    // With one link more. That a size is small stays a clause, here and at `store_row`: the definitions make rows too, and carry no proof.
     pub fn plus(self, r: Row) -> Rooms
         requires { (size_in r.verdict ≤ 3000000000) × (self.opened ≤ 768000000000) × (self.whole ≤ 768000000000) }
         ensures { result ≡ rooms_with self r }

@@ -59,7 +59,7 @@ impl Streams<'_> {
         Ok(())
     }
 
-    // Puts a path at the start of the text, and answers how many bytes it has.
+    // Puts a path at the start of the text, and answers how many bytes it has: a count, here and below, as std's `read`, so that the buffer stays the caller's.
     pub fn path_argument(
         self,
         rt: &impl Env,

@@ -14,7 +14,7 @@ use std::io::{Print, Stderr, Stdout};
 // Room for a line: a name or an argument of at most 4,096 bytes, and what is said of it.
 pub const LINE: usize = 5_120;
 
-// A program's name, and where it writes its lines and its complaints.
+// A program's name, and where it writes its lines and its complaints. The runtime isn't in it: a function without `rt` reads no file and no argument.
 #[derive(Clone, Copy)]
 pub struct Streams<'a> {
     program: &'a [u8],
@@ -75,7 +75,7 @@ impl<'a> Streams<'a> {
         let _ = self.err.write_all(written(out));
     }
 
-    // `PROGRAM: WRONG; expected EXPECTED`.
+    // Four complaints, each with other parts between one beginning and one end. `PROGRAM: WRONG; expected EXPECTED`.
     pub fn complain(self, wrong: &[u8], expected: &[u8]) -> Failure
         ensures { result ≡ Trouble }
     {

@@ -6,7 +6,7 @@ ghost use Rattle.terminal.specs.Status.{status_of, worse_of};
 use std::process::ExitCode;
 
 // Why a run did not do all that it was asked. It has been said on standard error.
-#[derive(Clone, Copy, Debug, PartialEq, Eq)]
+#[derive(Clone, Copy, Debug, PartialEq, Eq, PartialOrd, Ord)]
 pub enum Failure {
     Refused,
     Trouble,
@@ -27,9 +27,5 @@ pub fn exit_code(run: Result<(), Failure>) -> ExitCode
 pub fn worse(one: Result<(), Failure>, other: Result<(), Failure>) -> Result<(), Failure>
     ensures { result ≡ worse_of one other }
 {
-    match one {
-        Ok(()) => other,
-        Err(Failure::Refused) => other.and(one),
-        Err(Failure::Trouble) => one,
-    }
+    one.max(other)
 }

@@ -1,5 +1,5 @@
 // Lines for standard output, and what a refusal means.
-ghost use Rattle.std.specs.Prelude.{◌≤◌, length};
+ghost use Rattle.std.specs.Prelude.{◌≡◌, ◌≤◌, IfOk, length, Ok};
 
 use crate::complaint::{LINE, Streams, put_name, written};
 use crate::failure::Failure;
@@ -47,10 +47,21 @@ impl Streams<'_> {
         }
     }
 
+    // What an entry point answered, or its refusal, told: of the file where there is one.
+    pub fn or_refuse<T>(self, file: Option<&[u8]>, answer: Result<T, Refusal>) -> Result<T, Failure>
+        ensures { IfOk answer (λ x. result ≡ Ok x) }
+    {
+        match answer {
+            Ok(x) => Ok(x),
+            Err(refusal) => Err(self.refuse(file, refusal)),
+        }
+    }
+
     // `closed CLOCK at PLACE`.
     pub fn print_closed(self, clock: u64, place: usize) -> Result<(), Failure> {
         self.print_outcome(b"closed", clock, place)
     }
+
     // `file NAME`.
     pub fn print_file(self, name: &[u8]) -> Result<(), Failure> {
         let mut text = [0u8; LINE];

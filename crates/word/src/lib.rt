@@ -53,6 +53,7 @@ fn offset_span(bits: &[u8], l: u64, n: u64) -> Span
     ensures { result ≡ span_of (bit_at bits.now) l n (length bits.now) }
 {
     let mut s = Span { k: 0, K: 0 };
+    // Counted by hand: of a filtered chain the check knows the steps, and no count.
     let mut j: u64 = 0;
     for (t, b) in bits.iter().enumerate() {
         if *b == 1 {
