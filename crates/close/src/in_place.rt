@@ -1,5 +1,7 @@
 // Closing a clock in its file: one byte is written in its place, and nothing else is touched.
 ghost use Rattle.std.specs.Prelude.{◌≡◌, ◌<◌, IfOk, length, set};
+ghost use Rattle.register.specs.Closing.{Closes};
+ghost use Rattle.close.specs.Turning.{place_of};
 
 use reply::Refusal;
 use std::fs::{File, Metadata, OpenOptions};
@@ -24,8 +26,9 @@ struct Turned {
     byte: u8,
 }
 
-// Closes the clock in the bytes that were read. To write that one byte makes of the old bytes the new ones.
+// Closes that very clock in the bytes that were read, or refuses as closing does. To write the one byte makes of the old bytes the new ones.
 fn turn(sheet: &mut [u8], clock: usize) -> Result<Turned, Refusal>
+    ensures closes { Closes sheet.old clock (place_of result) sheet.new }
     ensures within { IfOk result (λ t. t.place < length sheet.old) }
     ensures one_byte { IfOk result (λ t. sheet.new ≡ set sheet.old t.place t.byte) }
 {
