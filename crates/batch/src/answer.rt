@@ -1,20 +1,38 @@
 // What every answer is made of: a reply, and numbers of eight bytes, low byte first.
+ghost use Rattle.std.specs.Prelude.{◌∷◌};
+ghost use Rattle.field.specs.Spelling.{bytes_of};
+ghost use Rattle.line.specs.Text.{put};
+ghost use Rattle.line.specs.Writing.{out_in, Leaves};
+ghost use Rattle.batch.specs.Numbers.{numbers_of};
+
+use field::{put_low_first, to_twos};
 use line::Writer;
 use reply::Refusal;
 
-pub fn put_number(out: &mut Writer<'_>, x: u64) {
-    out.put_bytes(&x.to_le_bytes());
+#[tactic(auto, using(crate::proofs::Numbers::filled))]
+pub fn put_number(out: &mut Writer<'_>, x: u64)
+    ensures { Leaves out.old out.new (put (out_in out.old) (bytes_of 8 x)) }
+{
+    let mut bytes = [0u8; 8];
+    put_low_first(&mut bytes, 0, 8, x);
+    out.put_bytes(&bytes);
 }
 
 // Puts signed numbers, in two's complement.
-pub fn put_all(out: &mut Writer<'_>, numbers: &[i64]) {
+#[tactic(auto, using(crate::proofs::Numbers::numbers_more, crate::proofs::Numbers::numbers_past), unfolding(line::specs::Text::put))]
+pub fn put_all(out: &mut Writer<'_>, numbers: &[i64])
+    ensures { Leaves out.old out.new (put (out_in out.old) (numbers_of numbers.now)) }
+{
     for x in numbers {
-        out.put_bytes(&x.to_le_bytes());
+        put_number(out, to_twos(*x));
     }
 }
 
 // Puts a reply's number and place, which every answer begins with.
-pub fn put_reply(out: &mut Writer<'_>, number: u8, place: u64) {
+#[tactic(auto, unfolding(line::specs::Text::put))]
+pub fn put_reply(out: &mut Writer<'_>, number: u8, place: u64)
+    ensures { Leaves out.old out.new (put (out_in out.old) (number ∷ bytes_of 8 place)) }
+{
     out.put_byte(number);
     put_number(out, place);
 }

@@ -4,10 +4,11 @@ ghost use Rattle.batch.specs.Ops.{OpOf};
 
 use std::io::{ErrorKind, Read};
 
-// Why no case follows: this one is malformed, or its answer could not be written.
+// Why no case follows: this one is malformed, none could be read where one may begin, or its answer could not be written.
 #[derive(Clone, Copy, Debug, PartialEq, Eq)]
 pub enum Stop {
     Malformed,
+    Unread,
     Unwritten,
 }
 
@@ -61,7 +62,7 @@ pub fn next_op(rt: &HostRuntime) -> Result<Option<u8>, Stop> {
     match rt.stdin().read_exact(&mut op) {
         Ok(()) => Ok(Some(op[0])),
         Err(why) if why.kind() == ErrorKind::UnexpectedEof => Ok(None),
-        Err(_) => Err(Stop::Malformed),
+        Err(_) => Err(Stop::Unread),
     }
 }
 

@@ -9,7 +9,7 @@ ghost use Rattle.std.specs.Prelude.{◌≤◌, ◌≤ℤ◌, pos, negsuc, length
 use answer::{put_all, put_number, put_outcome, put_reply};
 use case::{Ask, Op, Stop, Turn, head, limited, next_op, read};
 use envelope::Envelope;
-use field::{HALF_64, from_twos, low_first};
+use field::{HALF_64, from_twos, low_first, put_low_first};
 use line::Writer;
 use pattern::Answer;
 use reply::Refusal;
@@ -116,7 +116,9 @@ fn quoted(rt: &HostRuntime, sheet: &[u8], clock: usize, out: &mut [u8; ANSWER]) 
     let part = register::quote(sheet, clock);
     let mut answer = Writer::new(out);
     put_quoting(&mut answer, sheet, clock, part);
-    answer.put_bytes(&(part.len() as u64).to_le_bytes()[..4]);
+    let mut length = [0u8; 4];
+    put_low_first(&mut length, 0, 4, part.len() as u64);
+    answer.put_bytes(&length);
     send(rt, written(&answer))?;
     send(rt, part)
 }
@@ -214,6 +216,7 @@ fn run(rt: &HostRuntime, to: Streams<'_>) -> Result<(), Failure> {
             let _ = rt.stderr().write_all(b"bad case\n");
             Err(Failure::Trouble)
         }
+        Err(Stop::Unread) => Err(to.complain(b"standard input could not be read", b"cases")),
         Err(Stop::Unwritten) => Err(to.complain(
             b"standard output could not be written whole",
             b"room for the answers",

@@ -124,7 +124,7 @@ pub record Demand2 : Type 0 where
   pub listing : (s : List ℕ) (o : SheetRead) → Passed s o → (t u : List ℕ) (r : Result ℕ Refusal) → ListsInto s t r u → length (sheet_text o) ≤ length t
       → (r ≡ Ok (length (sheet_text o))) × (u ≡ sheet_text o ++ drop (length (sheet_text o)) t)
   pub listing_within : (s : List ℕ) → AllBytes s → (o : SheetRead) → Passed s o → length (sheet_text o) ≤ 18_463
-  -- "Closing a clock alters one mark in the sheet and no envelope, verdict, size or whole total": where the reply is 0, at its place
+  -- "Closing a clock alters one mark in the sheet and no envelope, verdict, size or whole total": where a place is answered, at it
   pub closing : (s : List ℕ) → AllBytes s → (i : ℕ) (r : Result ℕ Refusal) (t : List ℕ) → Closes s i r t → (place : ℕ) → r ≡ Ok place → (o : SheetRead) → Passed s o → OneClosed s i o place t
   -- any set of clocks, in any order
   pub any_set : (s : List ℕ) → AllBytes s → (is t : List ℕ) → ClosedInTurn is s t → (o : SheetRead) → Passed s o

@@ -7,7 +7,7 @@ ghost use Rattle.std.specs.Prelude.{◌≡◌, ◌≤◌};
 ghost use Rattle.reply.specs.Refusal.{cause_number};
 ghost use Rattle.field.specs.Field.{field_at, field_in, signed_at, signed_in, read_of};
 
-pub use number::{HALF_32, HALF_64, from_twos, low_first};
+pub use number::{HALF_32, HALF_64, from_twos, low_first, put_low_first, to_twos};
 use reply::{Cause, Refusal};
 
 // A place in a sheet, which is passed beside it: with the slice inside, each answer would carry two words more, and each contract the name of the slice.

@@ -24,6 +24,21 @@ pub fn low_first(s: &[u8], at: usize, width: usize) -> usize
     v
 }
 
+// Puts x in `width` bytes from `at` on, and answers the place past them.
+#[tactic(auto, using(crate::proofs::Spelling::none_left, crate::proofs::Spelling::part_put))]
+pub fn put_low_first(out: &mut [u8], at: usize, width: usize, x: u64) -> usize
+    requires { at + width ≤ length out.old }
+    ensures place { result ≡ at + width }
+    ensures bytes { out.new ≡ sets out.old at (bytes_of width x) }
+{
+    let mut rest = x;
+    for byte in out[at..at + width].iter_mut() {
+        *byte = (rest % 256) as u8;
+        rest /= 256;
+    }
+    at + width
+}
+
 // The number that bits stand for, where `half` of the numbers that they can spell are below 0.
 // By hand, since it serves both widths: the library has a `cast_signed` for each.
 pub fn from_twos(v: u64, half: u64) -> i64
@@ -35,4 +50,12 @@ pub fn from_twos(v: u64, half: u64) -> i64
     } else {
         -1 - ((half - 1 - (v - half)) as i64)
     }
+}
+
+// The 64 bits of a number.
+#[tactic(auto, unfolding(crate::specs::Spelling::twos_by))]
+pub fn to_twos(z: i64) -> u64
+    ensures { result ≡ twos_by 9223372036854775808 z }
+{
+    z.cast_unsigned()
 }

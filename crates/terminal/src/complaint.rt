@@ -1,5 +1,5 @@
 // Complaints: one line on standard error that says what was wrong and what was expected.
-ghost use Rattle.std.specs.Prelude.{◌≡◌, MatchResult, Ok, Err};
+ghost use Rattle.std.specs.Prelude.{◌≡◌, MatchResult, Ok, Err, take};
 ghost use Rattle.line.specs.Text.{put};
 ghost use Rattle.line.specs.Writing.{out_in, Leaves};
 ghost use Rattle.terminal.specs.Shown.{shown_byte, shown_name};
@@ -48,7 +48,9 @@ fn put_expected(out: &mut Writer<'_>, wrong: &[u8], expected: &[u8]) {
 }
 
 // What was put so far, as far as there was room for it.
-pub fn written<'a>(out: &'a Writer<'_>) -> &'a [u8] {
+pub fn written<'a>(out: &'a Writer<'_>) -> &'a [u8]
+    ensures { result.now ≡ take out.now.at out.now.bytes.now }
+{
     &out.bytes[..out.at.min(out.bytes.len())]
 }
 
