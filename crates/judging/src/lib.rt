@@ -96,6 +96,9 @@ fn above(x: i64, low: i64) -> u64
 }
 
 // How far above the floor some bits end, where they begin at `start`; None where they pass the room. Below the floor a number wraps and is large: one test a bit.
+// Out of line: no jump of its loop ends a line of 32 bytes then, at either place where it can be linked; with one that does, many Intel processors take twice
+// as long for it.
+#[inline(never)]
 fn sweep(e: Envelope, room: u64, bits: &[u8], start: u64) -> Option<u64>
     requires taken { Taken e × (length bits.now ≤ plain bits.now) }
     requires e_value { (pos room +ℤ floor_of e ≡ e.K) × (start ≤ room) }

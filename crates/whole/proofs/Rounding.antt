@@ -1,17 +1,25 @@
 -- Laws of division rounded down and up.
 -- Assumes nothing.
 use mathlib.Core.Path.{◌≡◌, ap}
-use Prim.Native.Nat.{ℕ, suc, ◌+◌, ◌*◌, ◌/◌, ◌≤◌, ◌<◌}
-use native.Mathlib.Nat.{div-add-mod', mod-lt, suc-mul, add-mul, lt_of_mul-lt-mul_right, div-le_self}
+use Prim.Native.Nat.{ℕ, zero, suc, ◌+◌, ◌*◌, ◌/◌, ◌≤◌, ◌<◌}
+use native.Mathlib.Nat.{div-add-mod', mod-lt, suc-mul, add-mul, mul-le-mul_right, lt_of_mul-lt-mul_right, div-le_self, zero-div}
 use native.Mathlib.Omega.{arith}
 use lib.IntN.{ℤ, pos, negsuc, neg_ℤ, ◌+ℤ◌, ◌*ℤ◌}
-use lib.Signed.{◌≤ℤ◌, ◌<ℤ◌}
+use lib.Signed.{◌≤ℤ◌, ◌<ℤ◌, quot_z}
 use mir.Syntax.{Width}
 use mir.Val.{SFits}
 use Rattle.whole.specs.Rounding.{floor_div, ceil_div}
 use Rattle.whole.proofs.Bridge.{up, down, sum, up_neg, down_neg, up_mul, down_mul, orders, signed}
 
 -- ---- laws of products by a natural
+
+pub mul_mono : {x y : ℤ} (d : ℕ) → x ≤ℤ y → (x *ℤ pos d) ≤ℤ (y *ℤ pos d)
+mul_mono {x} {y} d h =
+    let p : (up x + down y) * d ≤ (up y + down x) * d = mul-le-mul_right d (≤ℤ-reads' h) in
+    omega (arith, orders, p, add-mul (up x) (down y) d, add-mul (up y) (down x) d, up_mul x d, down_mul x d, up_mul y d, down_mul y d)
+  where
+    ≤ℤ-reads' : x ≤ℤ y → up x + down y ≤ up y + down x
+    ≤ℤ-reads' h = omega (arith, orders)
 
 -- a product by d, of a number that is greater by one
 pub next : (a b d : ℕ) → a * d < b * d + d → a ≤ b
@@ -68,7 +76,17 @@ pub ceil_only : (x q : ℤ) (d : ℕ) → 0 < d → x ≤ℤ (q *ℤ pos d) → 
 ceil_only x q d h p r =
     omega (arith, orders, ceil_least x q d h p, mul_next q (ceil_div x d) d (omega (arith, orders, ceil_high x d h, sum x (pos d), sum (ceil_div x d *ℤ pos d) (pos d))))
 
--- what fits a type, divided, fits it
+-- ---- what fits a type, divided, fits it: rounded toward 0, down and up
+
+pub quot_fits : {w : Width} (x : ℤ) (d : ℕ) → SFits w x → SFits w (quot_z x (pos d))
+quot_fits (pos a) d h = omega (arith, signed, div-le_self a d)
+quot_fits (negsuc a) d h = omega (arith, signed, up_neg (pos (suc a / d)), down_neg (pos (suc a / d)), div-le_self (suc a) d)
+
 pub floor_fits : {w : Width} (x : ℤ) (d : ℕ) → SFits w x → SFits w (floor_div x d)
 floor_fits (pos a) d h = omega (arith, signed, div-le_self a d)
 floor_fits (negsuc a) d h = omega (arith, signed, div-le_self a d)
+
+pub ceil_fits : {w : Width} (x : ℤ) (d : ℕ) → SFits w x → SFits w (ceil_div x d)
+ceil_fits (pos zero) d h = omega (arith, signed, zero-div d, up_neg (pos (0 / d)), down_neg (pos (0 / d)))
+ceil_fits (pos (suc a)) d h = omega (arith, signed, div-le_self a d)
+ceil_fits (negsuc a) d h = omega (arith, signed, up_neg (pos (suc a / d)), down_neg (pos (suc a / d)), div-le_self (suc a) d)

@@ -20,7 +20,9 @@ pub fn ceil_div(x: i64, d: u64) -> i64
     ensures { result ≡ ceil_div x d }
 {
     let e = d as i64;
-    if 0 < x { (x - 1) / e + 1 } else { x / e }
+    // One division for both signs: with one for each the compiler takes the slow one, of 64 bits, where x is 0.
+    let one = if 0 < x { 1 } else { 0 };
+    (x - one) / e + one
 }
 
 pub fn larger_of(x: i64, y: i64) -> i64
