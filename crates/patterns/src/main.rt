@@ -84,15 +84,21 @@ fn walk(to: Streams<'_>, e: Envelope, count: u64, bits: &mut [u8]) -> Result<(),
     lines.print()
 }
 
-// By LENGTH.
-fn print_first(
-    rt: &HostRuntime,
-    to: Streams<'_>,
-    naming: Naming,
-    count: u64,
-) -> Result<(), Failure> {
+// LENGTH and COUNT, which stand behind the envelope.
+fn behind(rt: &HostRuntime, to: Streams<'_>, naming: Naming) -> Result<(u64, u64), Failure> {
     let length = to.natural_argument(rt, b"LENGTH", naming.next())?;
-    let e = naming.envelope(rt, to)?;
+    Ok((length, count_argument(rt, to, naming.next() + 1)?))
+}
+
+// By LENGTH. Numbers are judged in the order in which they stand, and a sheet is read when all of them will do.
+fn print_first(rt: &HostRuntime, to: Streams<'_>, naming: Naming) -> Result<(), Failure> {
+    let (e, (length, count)) = match naming {
+        Naming::Numbers => (naming.envelope(rt, to)?, behind(rt, to, naming)?),
+        Naming::Clock => {
+            let numbers = behind(rt, to, naming)?;
+            (naming.envelope(rt, to)?, numbers)
+        }
+    };
     let mut bits = [0u8; FIGURES];
     // A longer pattern is refused as one that fills the slice.
     let m = length.min(FIGURES as u64) as usize;
@@ -101,12 +107,8 @@ fn print_first(
 }
 
 // By `from PATTERN`.
-fn print_given(
-    rt: &HostRuntime,
-    to: Streams<'_>,
-    naming: Naming,
-    count: u64,
-) -> Result<(), Failure> {
+fn print_given(rt: &HostRuntime, to: Streams<'_>, naming: Naming) -> Result<(), Failure> {
+    let count = count_argument(rt, to, naming.next() + 2)?;
     let mut bits = [0u8; FIGURES];
     let (e, m) = naming.with_pattern(rt, to, naming.next() + 1, &mut bits)?;
     to.or_refuse(None, pattern::check(e, &bits[..m]))?;
@@ -126,11 +128,10 @@ fn run(rt: &HostRuntime, to: Streams<'_>) -> Result<(), Failure> {
     let is_from = is_word(rt, naming.next(), b"from");
     let last = naming.next() + if is_from { 1 } else { 0 };
     to.count_arguments(rt, last, last + 1, USAGE)?;
-    let count = count_argument(rt, to, last + 1)?;
     if is_from {
-        print_given(rt, to, naming, count)
+        print_given(rt, to, naming)
     } else {
-        print_first(rt, to, naming, count)
+        print_first(rt, to, naming)
     }
 }
 

@@ -151,14 +151,14 @@ impl Streams<'_> {
         )
     }
 
-    // FILE and CLOCK, the first two arguments.
+    // FILE and CLOCK, the first two arguments; whether FILE can be opened at all is looked at after CLOCK.
     pub fn clock_arguments<'a>(
         self,
         rt: &impl Env,
         text: &'a mut [u8],
     ) -> Result<(&'a str, usize), Failure> {
-        let path = self.file_argument(rt, 1, text)?;
+        let n = self.path_argument(rt, 1, text)?;
         let clock = self.natural_argument(rt, b"CLOCK", 2)?;
-        Ok((path, clock as usize))
+        Ok((self.path_text(&text[..n])?, clock as usize))
     }
 }
