@@ -51,7 +51,7 @@ pub says : (v : ℕ) → Says 1 (tag_most + 1) v (tag_of tags v)
 says v = says_among tags 1 v (refl, (refl, (refl, (refl, (refl, tt)))))
 
 -- and a tag's number says that tag
-known_tag : (t : Tag) → tag_of tags (tag_number t) ≡ passes t
+pub known_tag : (t : Tag) → tag_of tags (tag_number t) ≡ passes t
 known_tag Tag.Word = refl
 known_tag Tag.Declared = refl
 known_tag Tag.Not = refl

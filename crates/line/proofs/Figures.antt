@@ -2,12 +2,22 @@
 use mathlib.Core.Path.{◌≡◌, refl}
 use mathlib.Core.Bool.{Bool, true, false, cond}
 use mathlib.Core.List.{List, [], ◌∷◌, ◌++◌}
-use Prim.Native.Nat.{ℕ, ◌≤◌}
+use Prim.Native.Nat.{ℕ, ◌≤◌, ◌<◌}
 use native.Mathlib.Omega.{arith}
-use borrow.Author.Tests.{le-ltb, le-leb, ltb-false, leb-true}
+use borrow.Author.Tests.{lt-ltb, le-ltb, le-leb, lt-leb, ltb-false, leb-true}
 use lib.Dec.{leb, ltb}
 use Rattle.line.specs.Text.{figure}
 use Rattle.line.specs.Promise.{is_figure, all_figures}
+
+cond_same : {A : Type 0} (t : Bool) (x : A) → cond t x x ≡ x
+cond_same true x = refl
+cond_same false x = refl
+
+pub below_figures : (b : ℕ) → b < figure 0 → is_figure b ≡ false
+below_figures b h = rw (lt-ltb b (figure 0) h)
+
+pub above_figures : (b : ℕ) → figure 9 < b → is_figure b ≡ false
+above_figures b h = rw (lt-leb b (figure 9) h) (cond_same (ltb b (figure 0)) false)
 
 pub is_figure_lem : (b : ℕ) → figure 0 ≤ b → b ≤ figure 9 → is_figure b ≡ true
 is_figure_lem b h k = rw (le-ltb b (figure 0) h, le-leb b (figure 9) k)

@@ -37,6 +37,10 @@ put_kept o (b ∷ t) = put_kept (put_one o b) t ∙ length-set o.bytes o.at b
 pub put_length : (xs ys t : List ℕ) (a r : ℕ) → Put xs a t ys r → length ys ≡ length xs
 put_length xs ys t a r p = ap (λ (o : Out). length o.bytes) p ∙ put_kept (out_of xs a) t
 
+-- what is left, put from here, gives what all gives: so the buffer kept its length
+pub going_length : (o p : Out) (t u : List ℕ) → put o t ≡ put p u → length o.bytes ≡ length p.bytes
+going_length o p t u e = sym (put_kept o t) ∙ ap (λ (q : Out). length q.bytes) e ∙ put_kept p u
+
 -- one byte more of a text
 pub put_next : (o p : Out) (t : List ℕ) (i : ℕ) → i < length t → p ≡ put_one o (get_or t i 0) → put p (drop (i + 1) t) ≡ put o (drop i t)
 unfolding put

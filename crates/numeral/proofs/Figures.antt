@@ -15,7 +15,7 @@ use Rattle.line.specs.Promise.{is_figure, all_figures, read_on, decimal_value}
 use Rattle.line.proofs.Figures.{figures, figure_first}
 use Rattle.numeral.specs.declared.NumberError.{NumberError}
 use Rattle.numeral.specs.declared.NumberError.TheVariants.{NotANumber, TooLarge}
-use Rattle.numeral.specs.Number.{HasFigures, unsigned, fitted, natural_of, positive, negative, whole_of}
+use Rattle.numeral.specs.Number.{HasFigures, unsigned, fitted, numeral_of, natural_of, positive, negative, whole_of}
 
 figure_test : (b : ℕ) → is_ascii_digit b ≡ is_figure b
 figure_test b = grind (arith, nat_tests)
@@ -53,20 +53,25 @@ natural_none (b ∷ t) h = go (all_figures (b ∷ t)) refl
     go true e = absurd (h (IsUtf8-from_ascii (b ∷ t) (ascii (b ∷ t) (omega arith, e)), (omega arith, e)))
     go false e = refl
 
-natural_some : (t : List ℕ) → HasFigures t → fitted (decimal_value t) ≡ natural_of t
+pub natural_some : (t : List ℕ) → 0 < length t → natural_of t ≡ numeral_of t
 unfolding natural_of
 natural_some [] h = absurd (omega arith)
-natural_some (b ∷ t) h = rw h.1
+natural_some (b ∷ t) h = refl
 
-fits : (v : ℕ) → v < 2 ^ 64 → Ok v ≡ fitted v
+of_figures : (t : List ℕ) → HasFigures t → fitted (decimal_value t) ≡ natural_of t
+unfolding natural_of
+of_figures [] h = absurd (omega arith)
+of_figures (b ∷ t) h = rw h.1
+
+pub fits : (v : ℕ) → v < 2 ^ 64 → Ok v ≡ fitted v
 fits v h = grind (arith, nat_tests)
 
-outgrows : (v : ℕ) → ¬ (v < 2 ^ 64) → Err TooLarge ≡ fitted v
+pub outgrows : (v : ℕ) → ¬ (v < 2 ^ 64) → Err TooLarge ≡ fitted v
 outgrows v h = grind (arith, nat_tests)
 
 pub natural_read : {E : Type 0} (t u : List ℕ) (r : Result ℕ E) (s : Result ℕ NumberError)
     → (u ≡ t) × HasFigures t → ParsesUnsigned 64 10 u r → MatchResult r (λ n. s ≡ Ok n) (λ e. s ≡ Err TooLarge) → s ≡ natural_of t
-natural_read {E} t u r s h p m = go r (parse_digits own 64 t r (rw h.0 at p) h.1.1) m ∙ natural_some t h.1
+natural_read {E} t u r s h p m = go r (parse_digits own 64 t r (rw h.0 at p) h.1.1) m ∙ of_figures t h.1
   where
     go : (r : Result ℕ E) → OkIff r ((0 < length t) × (decimal_value t < 2 ^ 64)) (decimal_value t) → MatchResult r (λ n. s ≡ Ok n) (λ e. s ≡ Err TooLarge) → s ≡ fitted (decimal_value t)
     go (Ok n) q m = m ∙ rw q.1 (fits (decimal_value t) q.0.1)
@@ -124,5 +129,5 @@ whole_read {E} (b ∷ t) u r s h p m = go (eqb b minus) refl h.1
     plain (Err e) k q m = m ∙ positive_outgrows (decimal_value (b ∷ t)) (λ l. q (k.0, l))
 
     go : (f : Bool) → eqb b minus ≡ f → HasFigures (cond f t (b ∷ t)) → s ≡ cond f (negative (natural_of t)) (positive (natural_of (b ∷ t)))
-    go true e k = minused r k (parse_signed_minus own w64 (b ∷ t) r q (grind (arith, nat_tests))) m ∙ ap negative (natural_some t k)
-    go false e k = plain r k (parse_signed_digits own w64 (b ∷ t) r q k.1) m ∙ ap positive (natural_some (b ∷ t) k)
+    go true e k = minused r k (parse_signed_minus own w64 (b ∷ t) r q (grind (arith, nat_tests))) m ∙ ap negative (of_figures t k)
+    go false e k = plain r k (parse_signed_digits own w64 (b ∷ t) r q k.1) m ∙ ap positive (of_figures (b ∷ t) k)

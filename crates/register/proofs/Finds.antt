@@ -28,7 +28,7 @@ use Rattle.register.specs.Quoting.{quoting_of, quoted_from, quoted_part, Quotes,
 use Rattle.sheet.proofs.Spelling.Places.{clock_bytes, state_byte}
 
 -- ---- the contracts, by what closing and quoting come to
-closes_by : {s t : List ℕ} {i : ℕ} {r : Result ℕ Refusal} {x : Read ℕ} → closing_of s i ≡ x → r ≡ closing_reply x → t ≡ closed_bytes x s → Closes s i r t
+pub closes_by : {s t : List ℕ} {i : ℕ} {r : Result ℕ Refusal} {x : Read ℕ} → closing_of s i ≡ x → r ≡ closing_reply x → t ≡ closed_bytes x s → Closes s i r t
 closes_by e p q = record { reply_is = rw e p; bytes_are = rw e q }
 
 pub quotes_by : {s part : List ℕ} {i : ℕ} {at from : ℕ × ℕ} {x : Read ℕ} → quoting_of s i ≡ x → part ≡ quoted_part x s → from.0 ≡ at.0 → from.1 ≡ quoted_from x + at.1
@@ -60,7 +60,7 @@ module _ (s : List ℕ) (i : ℕ) (e : Refusal) (told : refused (cause_number e.
   unfolding closing_of
   close_refused = record { reply_is = rw found_refused (ap Err (sym (same_refusal e))); bytes_are = rw found_refused }
 
-  quote_refused : quoting_of s i ≡ refused (cause_number e.cause) e.place
+  pub quote_refused : quoting_of s i ≡ refused (cause_number e.cause) e.place
   unfolding quoting_of
   quote_refused = rw found_refused
 

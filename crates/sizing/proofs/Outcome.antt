@@ -81,10 +81,10 @@ rows_are o (l ∷ ls) = ap₂ {C = List Row} (λ r rs. r ∷ rs) one (rows_are o
 
 -- ---- a sheet that was read, by what was found: how many clocks and links
 module _ (s : List ℕ) (bytes : AllBytes s) (o : SheetRead) (c : ℕ) (read : read_sheet s ≡ got o c) (f : Found) (f_is : found_of o ≡ f) where
-  clocks_few : f.clocks ≤ clocks_most
+  pub clocks_few : f.clocks ≤ clocks_most
   clocks_few = omega (arith, few_clocks s bytes o c read, clocks_are o f f_is)
 
-  links_few : f.links ≤ links_most
+  pub links_few : f.links ≤ links_most
   links_few = omega (arith, few_links s bytes o c read, links_are o f f_is)
 
   -- with its tables
@@ -100,7 +100,7 @@ module _ (s : List ℕ) (bytes : AllBytes s) (o : SheetRead) (c : ℕ) (read : r
           links = rw (← links_are o f f_is) tables.2;
         }
 
-    ready : Ready (take f.clocks t) (take f.clocks ss) (take f.links es)
+    pub ready : Ready (take f.clocks t) (take f.clocks ss) (take f.links es)
     ready =
         let q = opens s bytes o c read in
         let states : length (take f.clocks ss) ≡ length o.sheet.clocks = ap length shows.states ∙ length-map o.sheet.clocks state_of_clock in
